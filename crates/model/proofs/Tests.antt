@@ -1,0 +1,142 @@
+-- Tests that compute, and the facts that they stand for. Assumes nothing.
+use mathlib.Core.Path.{_≡_, refl, sym, ap, ap₂, _∙_, subst}
+use mathlib.Core.Logic.{_≢_, _⊎_, inl, inr, ⊎-elim}
+use mathlib.Core.Bool.{Bool, true, false, cond, not, _&&_, _||_, false≢true, true≢false}
+use mathlib.Core.List.{List, [], _∷_, map}
+use Prim.Native.Nat.{ℕ, zero, suc, _+_, _≤_, _<_}
+use native.Mathlib.Omega.{arith}
+use lib.Dec.{eqb, ltb, leb}
+use borrow.Author.Tests.{eqb-true, eqb-false, eq-eqb, leb-true, leb-false, le-leb}
+use Rattle.model.specs.Walk.{allBelow, anyBelow, allIn, sameList, between}
+
+-- a test, with its outcome
+pub tested : (b : Bool) → (b ≡ true) ⊎ (b ≡ false)
+tested true = inl refl
+tested false = inr refl
+
+-- two tests that pass together are equal
+pub same-test : (a b : Bool) → (a ≡ true → b ≡ true) → (b ≡ true → a ≡ true) → a ≡ b
+same-test true b f g = sym (f refl)
+same-test false true f g = g refl
+same-test false false f g = refl
+
+pub not-both : {b : Bool} → b ≡ true → b ≡ false → ⊥
+not-both p q = true≢false (sym p ∙ q)
+
+-- ---- and, or, not
+
+pub and-left : (a b : Bool) → (a && b) ≡ true → a ≡ true
+and-left true b h = refl
+and-left false b h = absurd (false≢true h)
+
+pub and-right : (a b : Bool) → (a && b) ≡ true → b ≡ true
+and-right true b h = h
+and-right false b h = absurd (false≢true h)
+
+pub and-both : {a b : Bool} → a ≡ true → b ≡ true → (a && b) ≡ true
+and-both p q = ap₂ _&&_ p q
+
+pub or-left : (a b : Bool) → (a || b) ≡ false → a ≡ false
+or-left true b h = h
+or-left false b h = refl
+
+pub or-right : (a b : Bool) → (a || b) ≡ false → b ≡ false
+or-right true b h = absurd (true≢false h)
+or-right false b h = h
+
+pub or-neither : {a b : Bool} → a ≡ false → b ≡ false → (a || b) ≡ false
+or-neither p q = ap₂ _||_ p q
+
+pub and-swap : (a b c d : Bool) → (a && b && (c && d)) ≡ (a && c && (b && d))
+and-swap true true c d = refl
+and-swap true false true d = refl
+and-swap true false false d = refl
+and-swap false b c d = refl
+
+-- ---- numbers
+
+pub eq-or-lt : (t n : ℕ) → t < suc n → (t ≡ n) ⊎ (t < n)
+eq-or-lt t n h = go (eqb t n) refl
+  where
+    go : (b : Bool) → eqb t n ≡ b → (t ≡ n) ⊎ (t < n)
+    go true e = inl (eqb-true t n e)
+    go false e = let d : t ≢ n = eqb-false t n e in inr (omega arith)
+
+pub between-true : (lo hi x : ℕ) → between lo hi x ≡ true → (lo ≤ x) × (x ≤ hi)
+unfolding between
+between-true lo hi x h = (leb-true lo x (and-left (leb lo x) (leb x hi) h), leb-true x hi (and-right (leb lo x) (leb x hi) h))
+
+pub between-is : (lo hi x : ℕ) → lo ≤ x → x ≤ hi → between lo hi x ≡ true
+unfolding between
+between-is lo hi x l h = and-both (le-leb lo x l) (le-leb x hi h)
+
+-- ---- every number below n, some number below n
+
+pub all-at : (n : ℕ) (test : ℕ → Bool) → allBelow n test ≡ true → (i : ℕ) → i < n → test i ≡ true
+all-at zero test h i l = absurd (omega arith)
+all-at (suc n) test h i l = ⊎-elim
+    (λ (w : i ≡ n). ap test w ∙ and-right (allBelow n test) (test n) h)
+    (λ (w : i < n). all-at n test (and-left (allBelow n test) (test n) h) i w)
+    (eq-or-lt i n l)
+
+pub all-below : (n : ℕ) (test : ℕ → Bool) → ((i : ℕ) → i < n → test i ≡ true) → allBelow n test ≡ true
+all-below zero test h = refl
+all-below (suc n) test h = rw (all-below n test (λ i l. h i (omega arith))) (h n (omega arith))
+
+pub all-cong : (n : ℕ) (f g : ℕ → Bool) → ((i : ℕ) → i < n → f i ≡ g i) → allBelow n f ≡ allBelow n g
+all-cong zero f g h = refl
+all-cong (suc n) f g h = ap₂ _&&_ (all-cong n f g (λ i l. h i (omega arith))) (h n (omega arith))
+
+pub all-false : (n : ℕ) (test : ℕ → Bool) (i : ℕ) → i < n → test i ≡ false → allBelow n test ≡ false
+all-false n test i l h = ⊎-elim
+    (λ (w : allBelow n test ≡ true). absurd (not-both (all-at n test w i l) h))
+    (λ (w : allBelow n test ≡ false). w)
+    (tested (allBelow n test))
+
+pub all-and : (n : ℕ) (f g : ℕ → Bool) → allBelow n (λ i. f i && g i) ≡ (allBelow n f && allBelow n g)
+all-and zero f g = refl
+all-and (suc n) f g = ap (λ b. b && (f n && g n)) (all-and n f g) ∙ and-swap (allBelow n f) (allBelow n g) (f n) (g n)
+
+-- one fails
+pub one-fails : (n : ℕ) (test : ℕ → Bool) → allBelow n test ≡ false → (i : ℕ) × (i < n) × (test i ≡ false)
+one-fails zero test h = absurd (true≢false h)
+one-fails (suc n) test h = go (one-fails n test) (allBelow n test) refl (test n) refl h
+  where
+    go : (allBelow n test ≡ false → (i : ℕ) × (i < n) × (test i ≡ false)) → (a : Bool) → allBelow n test ≡ a → (b : Bool) → test n ≡ b → (a && b) ≡ false
+        → (i : ℕ) × (i < suc n) × (test i ≡ false)
+    go ih true ea true eb h = absurd (true≢false h)
+    go ih true ea false eb h = (n, omega arith, eb)
+    go ih false ea b eb h = let r = ih ea in (r .0, omega (arith, r .1), r .2)
+
+-- none passes
+pub none-at : (n : ℕ) (test : ℕ → Bool) → anyBelow n test ≡ false → (i : ℕ) → i < n → test i ≡ false
+none-at zero test h i l = absurd (omega arith)
+none-at (suc n) test h i l = ⊎-elim
+    (λ (w : i ≡ n). ap test w ∙ or-right (anyBelow n test) (test n) h)
+    (λ (w : i < n). none-at n test (or-left (anyBelow n test) (test n) h) i w)
+    (eq-or-lt i n l)
+
+pub none-below : (n : ℕ) (test : ℕ → Bool) → ((i : ℕ) → i < n → test i ≡ false) → anyBelow n test ≡ false
+none-below zero test h = refl
+none-below (suc n) test h = rw (none-below n test (λ i l. h i (omega arith))) (h n (omega arith))
+
+pub any-cong : (n : ℕ) (f g : ℕ → Bool) → ((i : ℕ) → i < n → f i ≡ g i) → anyBelow n f ≡ anyBelow n g
+any-cong zero f g h = refl
+any-cong (suc n) f g h = ap₂ _||_ (any-cong n f g (λ i l. h i (omega arith))) (h n (omega arith))
+
+-- ---- lists
+
+pub in-cong : {A : Type 0} (f g : A → Bool) → ((x : A) → f x ≡ g x) → (xs : List A) → allIn f xs ≡ allIn g xs
+in-cong f g h [] = refl
+in-cong f g h (x ∷ xs) = ap₂ _&&_ (h x) (in-cong f g h xs)
+
+pub same-list : (xs ys : List ℕ) → sameList xs ys ≡ true → xs ≡ ys
+same-list [] [] h = refl
+same-list [] (y ∷ ys) h = absurd (false≢true h)
+same-list (x ∷ xs) [] h = absurd (false≢true h)
+same-list (x ∷ xs) (y ∷ ys) h =
+    ap₂ (λ (z : ℕ) (zs : List ℕ). z ∷ zs) (eqb-true x y (and-left (eqb x y) (sameList xs ys) h)) (same-list xs ys (and-right (eqb x y) (sameList xs ys) h))
+
+pub list-same : (xs : List ℕ) → sameList xs xs ≡ true
+list-same [] = refl
+list-same (x ∷ xs) = and-both (eq-eqb x x refl) (list-same xs)

@@ -1,0 +1,12 @@
+-- What a call answers: a refusal's number alone, or what it was asked for (document 01, "Numbers a call can answer with"). Assumes nothing.
+use mathlib.Core.Bool.{Bool, true, false}
+use Prim.Native.Nat.{ℕ}
+
+pub data Answer (A : Type 0) : Type 0 where
+  refused : ℕ → Answer A
+  accepted : A → Answer A
+
+-- refused with n where the fault applies, and otherwise as told; in a chain of these the first fault that applies decides
+abbrev pub refuseIf : {A : Type 0} → Bool → ℕ → Answer A → Answer A
+refuseIf true n a = refused n
+refuseIf false n a = a

@@ -1,0 +1,165 @@
+-- Sheet A and its neighbours: the starred lines of document 01, by one computed check on the definitions. Assumes nothing.
+use mathlib.Core.Bool.{Bool, true, false, _&&_}
+use mathlib.Core.List.{List, [], _∷_, _++_}
+use Prim.Native.Nat.{ℕ, _+_, _*_}
+use lib.Dec.{T, eqb}
+use lib.ListN.{length}
+use Rattle.model.specs.Walk.{sameList}
+use Rattle.model.specs.Plans.{roundCost}
+use Rattle.model.specs.Answer.{Answer, refused, accepted}
+use Rattle.model.specs.SheetLayout.{decode}
+use Rattle.model.specs.Faults.{Counts, readSheet}
+use Rattle.model.specs.PlanLayout.{planBytes}
+use Rattle.model.specs.Validating.{validate}
+use Rattle.model.specs.Planning.{Planned, plan}
+use Rattle.model.specs.Printing.{ascii, printed}
+
+-- ---- the sheets
+
+-- E 10; w +5, -3; door 0 (task 0, points 1 to 1, work 4), door 1 (task 1, points 2 to 2, work 6); start at point 0; no pairs or rules;
+-- end costs 0, 20, 30; distance rows 0 2 3, 2 0 4, 3 4 0
+abbrev pub sheetA : List ℕ
+sheetA =
+    1 ∷ 0 ∷ 10 ∷ 0
+    ∷ 1 ∷ 0 ∷ 46 ∷ 0 ∷ 2 ∷ 0
+    ∷ 2 ∷ 0 ∷ 50 ∷ 0 ∷ 2 ∷ 0
+    ∷ 3 ∷ 0 ∷ 70 ∷ 0 ∷ 1 ∷ 0
+    ∷ 4 ∷ 0 ∷ 72 ∷ 0 ∷ 0 ∷ 0
+    ∷ 5 ∷ 0 ∷ 72 ∷ 0 ∷ 0 ∷ 0
+    ∷ 6 ∷ 0 ∷ 72 ∷ 0 ∷ 3 ∷ 0
+    ∷ 7 ∷ 0 ∷ 84 ∷ 0 ∷ 9 ∷ 0
+    ∷ 5 ∷ 0 ∷ 253 ∷ 255
+    ∷ 0 ∷ 0 ∷ 1 ∷ 0 ∷ 1 ∷ 0 ∷ 4 ∷ 0 ∷ 0 ∷ 0
+    ∷ 1 ∷ 0 ∷ 2 ∷ 0 ∷ 2 ∷ 0 ∷ 6 ∷ 0 ∷ 0 ∷ 0
+    ∷ 0 ∷ 0
+    ∷ 0 ∷ 0 ∷ 0 ∷ 0 ∷ 20 ∷ 0 ∷ 0 ∷ 0 ∷ 30 ∷ 0 ∷ 0 ∷ 0
+    ∷ 0 ∷ 0 ∷ 2 ∷ 0 ∷ 3 ∷ 0
+    ∷ 2 ∷ 0 ∷ 0 ∷ 0 ∷ 4 ∷ 0
+    ∷ 3 ∷ 0 ∷ 4 ∷ 0 ∷ 0 ∷ 0
+    ∷ []
+
+-- A with end load e, and with so many pairs and rules, whose bytes are given
+abbrev pub likeA : ℕ → ℕ → List ℕ → ℕ → List ℕ → List ℕ
+likeA e pairs pairBytes rules ruleBytes =
+    1 ∷ 0 ∷ e ∷ 0
+    ∷ 1 ∷ 0 ∷ 46 ∷ 0 ∷ 2 ∷ 0
+    ∷ 2 ∷ 0 ∷ 50 ∷ 0 ∷ 2 ∷ 0
+    ∷ 3 ∷ 0 ∷ 70 ∷ 0 ∷ 1 ∷ 0
+    ∷ 4 ∷ 0 ∷ 72 ∷ 0 ∷ pairs ∷ 0
+    ∷ 5 ∷ 0 ∷ (72 + 4 * pairs) ∷ 0 ∷ rules ∷ 0
+    ∷ 6 ∷ 0 ∷ (72 + 4 * pairs + 10 * rules) ∷ 0 ∷ 3 ∷ 0
+    ∷ 7 ∷ 0 ∷ (84 + 4 * pairs + 10 * rules) ∷ 0 ∷ 9 ∷ 0
+    ∷ 5 ∷ 0 ∷ 253 ∷ 255
+    ∷ 0 ∷ 0 ∷ 1 ∷ 0 ∷ 1 ∷ 0 ∷ 4 ∷ 0 ∷ 0 ∷ 0
+    ∷ 1 ∷ 0 ∷ 2 ∷ 0 ∷ 2 ∷ 0 ∷ 6 ∷ 0 ∷ 0 ∷ 0
+    ∷ 0 ∷ 0 ∷ (pairBytes ++ ruleBytes ++
+    (0 ∷ 0 ∷ 0 ∷ 0 ∷ 20 ∷ 0 ∷ 0 ∷ 0 ∷ 30 ∷ 0 ∷ 0 ∷ 0
+    ∷ 0 ∷ 0 ∷ 2 ∷ 0 ∷ 3 ∷ 0
+    ∷ 2 ∷ 0 ∷ 0 ∷ 0 ∷ 4 ∷ 0
+    ∷ 3 ∷ 0 ∷ 4 ∷ 0 ∷ 0 ∷ 0
+    ∷ []))
+
+abbrev pairBytes : ℕ → ℕ → List ℕ
+pairBytes sender receiver = sender ∷ 0 ∷ receiver ∷ 0 ∷ []
+
+abbrev ruleBytes : ℕ → ℕ → ℕ → ℕ → List ℕ
+ruleBytes door watched leastCount charge = door ∷ 0 ∷ watched ∷ 0 ∷ leastCount ∷ 0 ∷ charge ∷ 0 ∷ 0 ∷ 0 ∷ []
+
+-- the pair (1, 0); a ring of two pairs; a pair of a task with itself; a rule on door 0; other end loads
+abbrev pub paired : List ℕ
+paired = likeA 10 1 (pairBytes 1 0) 0 []
+
+abbrev pub ringed : List ℕ
+ringed = likeA 10 2 (pairBytes 0 1 ++ pairBytes 1 0) 0 []
+
+abbrev pub selfPaired : List ℕ
+selfPaired = likeA 10 1 (pairBytes 0 0) 0 []
+
+abbrev pub charged : ℕ → List ℕ
+charged charge = likeA 10 0 [] 1 (ruleBytes 0 2 1 charge)
+
+abbrev pub ended : ℕ → List ℕ
+ended e = likeA e 0 [] 0 []
+
+-- ---- what is lent: 14 cells and a buffer of 39 bytes, with noise in them
+
+abbrev cellNoise : List ℕ
+cellNoise = 901 ∷ 902 ∷ 903 ∷ 904 ∷ 905 ∷ 906 ∷ 907 ∷ 908 ∷ 909 ∷ 910 ∷ 911 ∷ 912 ∷ 913 ∷ 914 ∷ []
+
+abbrev byteNoise : List ℕ
+byteNoise =
+    201 ∷ 202 ∷ 203 ∷ 204 ∷ 205 ∷ 206 ∷ 207 ∷ 208 ∷ 209 ∷ 210 ∷ 211 ∷ 212 ∷ 213
+    ∷ 214 ∷ 215 ∷ 216 ∷ 217 ∷ 218 ∷ 219 ∷ 220 ∷ 221 ∷ 222 ∷ 223 ∷ 224 ∷ 225 ∷ 226
+    ∷ 227 ∷ 228 ∷ 229 ∷ 230 ∷ 231 ∷ 232 ∷ 233 ∷ 234 ∷ 235 ∷ 236 ∷ 237 ∷ 238 ∷ 239 ∷ []
+
+-- ---- the plans
+
+-- the plan of A, as document 01 prints it
+abbrev pub planA : List ℕ
+planA =
+    0x02 ∷ 0x00 ∷ 0x00 ∷ 0x00 ∷ 0x01 ∷ 0x00 ∷ 0x16 ∷ 0x00 ∷ 0x01 ∷ 0x00 ∷ 0x02 ∷ 0x00
+    ∷ 0x18 ∷ 0x00 ∷ 0x02 ∷ 0x00 ∷ 0x03 ∷ 0x00 ∷ 0x1c ∷ 0x00 ∷ 0x01 ∷ 0x00 ∷ 0x00 ∷ 0x00
+    ∷ 0x00 ∷ 0x00 ∷ 0x01 ∷ 0x00 ∷ 0x5c ∷ 0x00 ∷ 0x00 ∷ 0x00 ∷ 0x00 ∷ 0x00 ∷ 0x00 ∷ 0x00 ∷ []
+
+-- the same for two doors and a cost below 256
+abbrev planLikeA : ℕ → ℕ → ℕ → List ℕ
+planLikeA d₁ d₂ cost =
+    2 ∷ 0 ∷ 0 ∷ 0 ∷ 1 ∷ 0 ∷ 22 ∷ 0 ∷ 1 ∷ 0 ∷ 2 ∷ 0
+    ∷ 24 ∷ 0 ∷ 2 ∷ 0 ∷ 3 ∷ 0 ∷ 28 ∷ 0 ∷ 1 ∷ 0 ∷ 0 ∷ 0
+    ∷ d₁ ∷ 0 ∷ d₂ ∷ 0 ∷ cost ∷ 0 ∷ 0 ∷ 0 ∷ 0 ∷ 0 ∷ 0 ∷ 0 ∷ []
+
+-- ---- comparing
+
+abbrev sameAnswer : Answer ℕ → Answer ℕ → Bool
+sameAnswer (refused m) (refused n) = eqb m n
+sameAnswer (refused m) (accepted n) = false
+sameAnswer (accepted m) (refused n) = false
+sameAnswer (accepted m) (accepted n) = eqb m n
+
+-- reading refuses with n; reading answers N and P
+abbrev readingRefuses : Answer Counts → ℕ → Bool
+readingRefuses (refused m) n = eqb m n
+readingRefuses (accepted c) n = false
+
+abbrev readingAnswers : Answer Counts → ℕ → ℕ → Bool
+readingAnswers (refused m) N P = false
+readingAnswers (accepted c) N P = eqb (c .tasks) N && eqb (c .points) P
+
+-- planning answers the cost, and leaves these cells and these plan bytes in front of the noise
+abbrev planning : Planned → ℕ → List ℕ → List ℕ → Bool
+planning r cost cells bytes =
+    sameAnswer (r .answer) (accepted cost)
+    && sameList (r .cells) (cells ++ (913 ∷ 914 ∷ []))
+    && sameList (r .bytes) (bytes ++ (237 ∷ 238 ∷ 239 ∷ []))
+
+-- ---- the check
+
+unfoldable pub checkStarred : Bool
+checkStarred =
+    eqb (length sheetA) 102
+    && sameList sheetA (ended 10)
+    && readingAnswers (readSheet sheetA) 2 3
+    -- A: doors 0, 1 cost 92; doors 1, 0 cost 126
+    && eqb (roundCost (decode sheetA) 0 (0 ∷ 1 ∷ [])) 92
+    && eqb (roundCost (decode sheetA) 0 (1 ∷ 0 ∷ [])) 126
+    -- A planned
+    && planning (plan sheetA cellNoise byteNoise) 92 (0 ∷ 20 ∷ 30 ∷ 54 ∷ 24 ∷ 84 ∷ 57 ∷ 64 ∷ 36 ∷ 92 ∷ 68 ∷ 90 ∷ []) planA
+    -- pair (1, 0) added: cells 6 to 8 keep their numbers
+    && planning (plan paired cellNoise byteNoise) 126 (0 ∷ 20 ∷ 30 ∷ 54 ∷ 24 ∷ 84 ∷ 907 ∷ 908 ∷ 909 ∷ 126 ∷ 138 ∷ 90 ∷ []) (planLikeA 1 0 126)
+    -- 17
+    && readingRefuses (readSheet ringed) 17
+    && readingRefuses (readSheet selfPaired) 17
+    -- a rule on door 0, with charge 50 and with charge 34, where both plans cost 126
+    && planning (plan (charged 50) cellNoise byteNoise) 126 (0 ∷ 20 ∷ 30 ∷ 54 ∷ 24 ∷ 84 ∷ 57 ∷ 64 ∷ 36 ∷ 126 ∷ 118 ∷ 90 ∷ []) (planLikeA 1 0 126)
+    && planning (plan (charged 34) cellNoise byteNoise) 126 (0 ∷ 20 ∷ 30 ∷ 54 ∷ 24 ∷ 84 ∷ 57 ∷ 64 ∷ 36 ∷ 126 ∷ 102 ∷ 90 ∷ []) (planLikeA 0 1 126)
+    && eqb (roundCost (decode (charged 34)) 0 (1 ∷ 0 ∷ [])) 126
+    -- end loads
+    && readingRefuses (readSheet (ended 2)) 16
+    && readingAnswers (readSheet (ended 3)) 2 3
+    -- judged
+    && sameAnswer (validate sheetA planA) (accepted 92)
+    && sameAnswer (validate sheetA (planLikeA 0 0 92)) (refused 32)
+    && sameAnswer (validate sheetA (planLikeA 0 1 91)) (refused 34)
+    && sameAnswer (validate paired planA) (refused 33)
+    -- the print program
+    && sameList (printed sheetA) (ascii "cost 92\nstart 0\ndoor 0 task 0 open 3\ndoor 1 task 1 open 2\n")

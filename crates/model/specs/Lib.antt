@@ -1,0 +1,15 @@
+pub mod Walk
+pub mod TaskList
+pub mod Sheet
+pub mod Orders
+pub mod Cost
+pub mod Plans
+pub mod Bytes
+pub mod Answer
+pub mod SheetLayout
+pub mod Faults
+pub mod PlanLayout
+pub mod Validating
+pub mod Planning
+pub mod Printing
+pub mod Examples

@@ -1,0 +1,57 @@
+-- Orders of a list of tasks, and the pairs that they keep (document 01, "Cost of a round"; document 000, (2.7) and (4.2)). Assumes nothing.
+use mathlib.Core.Bool.{Bool, not, _&&_, _||_}
+use mathlib.Core.List.{List}
+use Prim.Native.Nat.{ℕ}
+use lib.Dec.{eqb, ltb}
+use Rattle.model.specs.Walk.{allBelow, allIn, keepIf, isEmpty, countOf, indexOf, listsBelow}
+use Rattle.model.specs.TaskList.{bit, member, full, size}
+use Rattle.model.specs.Sheet.{Sheet}
+
+-- an order of K, a list of some of n tasks: each task of K once, and nothing else
+unfoldable pub isOrder : ℕ → ℕ → List ℕ → Bool
+isOrder n K ts = allIn (λ t. ltb t n) ts && allBelow n (λ t. eqb (countOf t ts) (bit K t))
+
+-- the order keeps pair i: the sender stands before the receiver
+unfoldable pub keepsPair : Sheet → List ℕ → ℕ → Bool
+keepsPair S ts i = ltb (indexOf (S .sender i) ts) (indexOf (S .receiver i) ts)
+
+unfoldable pub keepsEveryPair : Sheet → List ℕ → Bool
+keepsEveryPair S ts = allBelow (S .pairs) (keepsPair S ts)
+
+-- pair i lies within K: both its tasks are in K
+unfoldable pub pairWithin : Sheet → ℕ → ℕ → Bool
+pairWithin S K i = member K (S .sender i) && member K (S .receiver i)
+
+unfoldable pub keepsPairsWithin : Sheet → ℕ → List ℕ → Bool
+keepsPairsWithin S K ts = allBelow (S .pairs) (λ i. not (pairWithin S K i) || keepsPair S ts i)
+
+-- an order of the full list that keeps every pair: a route admissible by precedence (2.7)
+unfoldable pub isAdmissible : Sheet → List ℕ → Bool
+isAdmissible S ts = isOrder (S .tasks) (full (S .tasks)) ts && keepsEveryPair S ts
+
+-- an order of K that keeps the pairs within K
+unfoldable pub isOrderWithin : Sheet → ℕ → List ℕ → Bool
+isOrderWithin S K ts = isOrder (S .tasks) K ts && keepsPairsWithin S K ts
+
+-- all of them, ordered by the first task in which two of them differ
+unfoldable pub admissibleOrders : Sheet → List (List ℕ)
+admissibleOrders S = keepIf (isAdmissible S) (listsBelow (S .tasks) (S .tasks))
+
+unfoldable pub ordersWithin : Sheet → ℕ → List (List ℕ)
+ordersWithin S K = keepIf (isOrderWithin S K) (listsBelow (S .tasks) (size (S .tasks) K))
+
+-- no order of the tasks keeps every pair
+unfoldable pub noOrder : Sheet → Bool
+noOrder S = isEmpty (admissibleOrders S)
+
+-- an essential list: not empty and, for each pair, with the receiver whenever it has the sender (4.2)
+unfoldable pub essential : Sheet → ℕ → Bool
+essential S K = not (eqb K 0) && allBelow (S .pairs) (λ i. not (member K (S .sender i)) || member K (S .receiver i))
+
+-- the lists that the pairs allow: the essential ones and the empty one
+unfoldable pub pairsAllow : Sheet → ℕ → Bool
+pairsAllow S K = eqb K 0 || essential S K
+
+-- task t can come first in K: it is in K, and receiver in no pair within K (4.1)
+unfoldable pub canComeFirst : Sheet → ℕ → ℕ → Bool
+canComeFirst S K t = member K t && allBelow (S .pairs) (λ i. not (pairWithin S K i && eqb t (S .receiver i)))

@@ -1,0 +1,93 @@
+-- The layout of a plan (document 01, "Layout of a plan"): writing one and reading one. Assumes nothing.
+use mathlib.Core.Bool.{Bool, cond, not, _||_}
+use mathlib.Core.List.{List, [], _∷_, _++_}
+use Prim.Native.Nat.{ℕ, suc, _+_, _*_}
+use lib.Dec.{eqb, ltb}
+use lib.ListN.{length, getD, take}
+use Rattle.model.specs.Walk.{flatMapBelow, mapBelow, sameList, between}
+use Rattle.model.specs.Bytes.{numberAt, bytesOf, overwrite}
+use Rattle.model.specs.Answer.{Answer, refused, accepted, refuseIf}
+use Rattle.model.specs.SheetLayout.{maxTasks, lineAt}
+
+abbrev pub planKind : ℕ
+planKind = 2
+
+-- ---- places, with n doors: behind kind, zero and three contents lines stand the start (16 bits), the doors (16 bits each) and the cost (64 bits)
+
+unfoldable pub planStartAt : ℕ
+planStartAt = lineAt 3
+
+unfoldable pub planDoorsAt : ℕ
+planDoorsAt = planStartAt + 2
+
+unfoldable pub planCostAt : ℕ → ℕ
+planCostAt n = planDoorsAt + 2 * n
+
+unfoldable pub planLength : ℕ → ℕ
+planLength n = planCostAt n + 8
+
+-- ---- writing
+
+-- contents line: body number, byte offset, number of entries
+unfoldable pub lineBytes : ℕ → ℕ → ℕ → List ℕ
+lineBytes number offset count = bytesOf 2 number ++ bytesOf 2 offset ++ bytesOf 2 count
+
+-- the bytes before the start
+unfoldable pub planHead : ℕ → List ℕ
+planHead n = bytesOf 2 planKind ++ bytesOf 2 0 ++ lineBytes 1 planStartAt 1 ++ lineBytes 2 planDoorsAt n ++ lineBytes 3 (planCostAt n) 1
+
+-- a plan's bytes: the first n of the doors
+unfoldable pub planBytes : ℕ → ℕ → List ℕ → ℕ → List ℕ
+planBytes n start doors cost = planHead n ++ bytesOf 2 start ++ flatMapBelow n (λ i. bytesOf 2 (getD doors i 0)) ++ bytesOf 8 cost
+
+-- the number of tasks is outside 1 to 12
+unfoldable pub wrongTasks : ℕ → Bool
+wrongTasks n = not (between 1 maxTasks n)
+
+-- what writing answers, the length, and the whole buffer afterwards
+pub record Written : Type 0 where
+  pub answer : Answer ℕ
+  pub bytes : List ℕ
+
+unfoldable pub writeAnswer : ℕ → ℕ → Answer ℕ
+writeAnswer n room = refuseIf (wrongTasks n) 12 (refuseIf (ltb room (planLength n)) 21 (accepted (planLength n)))
+
+unfoldable pub bytesWritten : Answer ℕ → List ℕ → List ℕ → List ℕ
+bytesWritten (refused r) bytes buffer = buffer
+bytesWritten (accepted l) bytes buffer = overwrite bytes buffer
+
+unfoldable pub writePlan : ℕ → ℕ → List ℕ → ℕ → List ℕ → Written
+writePlan n start doors cost buffer = record {
+  answer = writeAnswer n (length buffer);
+  bytes = bytesWritten (writeAnswer n (length buffer)) (planBytes n start doors cost) buffer;
+}
+
+-- ---- reading
+
+-- the length or a byte before the start is not as laid out for n doors
+unfoldable pub illFormed : ℕ → List ℕ → Bool
+illFormed n q = not (eqb (length q) (planLength n)) || not (sameList (take planStartAt q) (planHead n))
+
+unfoldable pub startIn : List ℕ → ℕ
+startIn q = numberAt 2 q planStartAt
+
+unfoldable pub doorIn : List ℕ → ℕ → ℕ
+doorIn q i = numberAt 2 q (planDoorsAt + 2 * i)
+
+unfoldable pub doorsIn : ℕ → List ℕ → List ℕ
+doorsIn n q = mapBelow n (doorIn q)
+
+unfoldable pub costIn : ℕ → List ℕ → ℕ
+costIn n q = numberAt 8 q (planCostAt n)
+
+-- what reading answers: start, doors and cost. The doors fill an array of twelve; those beyond n are 0
+pub record PlanRead : Type 0 where
+  pub start : ℕ
+  pub doors : List ℕ
+  pub cost : ℕ
+
+unfoldable pub readPlan : ℕ → List ℕ → Answer PlanRead
+readPlan n q =
+    refuseIf (wrongTasks n) 12
+    (refuseIf (illFormed n q) 30
+    (accepted (record { start = startIn q; doors = mapBelow maxTasks (λ i. cond (ltb i n) (doorIn q i) 0); cost = costIn n q })))

@@ -1,0 +1,57 @@
+-- Planning: the answer, every cell and every byte afterwards (document 01, "Working"). Assumes nothing.
+use mathlib.Core.Bool.{Bool, cond, _&&_}
+use mathlib.Core.List.{List}
+use mathlib.Core.Option.{Option, none, some}
+use Prim.Native.Nat.{ℕ, _*_, _/_, _%_, _^_}
+use lib.Dec.{ltb}
+use lib.ListN.{length, getD}
+use Rattle.model.specs.Walk.{mapBelow}
+use Rattle.model.specs.Sheet.{Sheet}
+use Rattle.model.specs.Orders.{pairsAllow}
+use Rattle.model.specs.Plans.{Plan, planCost, cheapest, costToGo}
+use Rattle.model.specs.Bytes.{overwrite}
+use Rattle.model.specs.Answer.{Answer, refused, accepted, refuseIf}
+use Rattle.model.specs.SheetLayout.{decode}
+use Rattle.model.specs.Faults.{unlessFault}
+use Rattle.model.specs.PlanLayout.{planLength, planBytes}
+
+unfoldable pub cellsNeeded : Sheet → ℕ
+cellsNeeded S = 2 ^ S .tasks * S .points
+
+-- a plan, where there is one; where 17 does not apply there is
+abbrev pub orNoOrder : Option Plan → Answer Plan
+orNoOrder none = refused 17
+orNoOrder (some x) = accepted x
+
+-- the plan for the sheet b, with room for so many cells and so many bytes
+unfoldable pub planFor : List ℕ → ℕ → ℕ → Answer Plan
+planFor b cells room =
+    unlessFault b
+    (refuseIf (ltb cells (cellsNeeded (decode b))) 20
+    (refuseIf (ltb room (planLength (decode b .tasks))) 21
+    (orNoOrder (cheapest (decode b)))))
+
+-- cell K times P plus p, which held x, afterwards: the cost to go from p, if K is a list that the pairs allow
+unfoldable pub cellAfter : Sheet → ℕ → ℕ → ℕ
+cellAfter S i x =
+    cond (ltb (i / S .points) (2 ^ S .tasks) && pairsAllow S (i / S .points)) (costToGo S (i / S .points) (i % S .points)) x
+
+unfoldable pub cellsAfter : Sheet → List ℕ → List ℕ
+cellsAfter S cells = mapBelow (length cells) (λ i. cellAfter S i (getD cells i 0))
+
+-- what planning answers, the cost, and the cells and the buffer afterwards
+pub record Planned : Type 0 where
+  pub answer : Answer ℕ
+  pub cells : List ℕ
+  pub bytes : List ℕ
+
+abbrev pub carriedOut : Sheet → Answer Plan → List ℕ → List ℕ → Planned
+carriedOut S (refused n) cells buffer = record { answer = refused n; cells = cells; bytes = buffer }
+carriedOut S (accepted x) cells buffer = record {
+  answer = accepted (planCost S x);
+  cells = cellsAfter S cells;
+  bytes = overwrite (planBytes (S .tasks) (x .start) (x .doors) (planCost S x)) buffer;
+}
+
+unfoldable pub plan : List ℕ → List ℕ → List ℕ → Planned
+plan b cells buffer = carriedOut (decode b) (planFor b (length cells) (length buffer)) cells buffer

@@ -1,0 +1,69 @@
+-- The output of the print program, from the bytes of a sheet (document 01, "Sheet A and its neighbours"). Assumes nothing.
+use mathlib.Core.Bool.{Bool, true, false}
+use mathlib.Core.List.{List, [], _∷_, _++_, map}
+use Prim.Native.Nat.{ℕ, zero, suc, _+_, _/_, _%_}
+use Prim.Native.Char.{code}
+use Prim.Native.String.{String, [] as noText, _∷_ as _then_}
+use lib.Dec.{ltb}
+use lib.ListN.{take}
+use Rattle.model.specs.TaskList.{maskOf}
+use Rattle.model.specs.Sheet.{Sheet}
+use Rattle.model.specs.Plans.{Plan, planCost}
+use Rattle.model.specs.Answer.{Answer, refused, accepted}
+use Rattle.model.specs.SheetLayout.{maxTasks, decode}
+use Rattle.model.specs.PlanLayout.{planLength}
+use Rattle.model.specs.Planning.{planFor}
+
+-- ---- text
+
+-- the bytes of a text of ASCII characters
+abbrev pub ascii : String → List ℕ
+ascii noText = []
+ascii (_then_ c s) = code c ∷ ascii s
+
+-- a number in decimal, by at most k divisions; n of them are enough
+abbrev pub decimalBy : ℕ → ℕ → List ℕ
+decimalBy zero n = (48 + n) ∷ []
+decimalBy (suc k) n = elim (ltb n 10) [ true ↦ (48 + n) ∷ [] | false ↦ decimalBy k (n / 10) ++ ((48 + n % 10) ∷ []) ]
+
+unfoldable pub decimal : ℕ → List ℕ
+decimal n = decimalBy n n
+
+-- each line ends with byte 10
+abbrev pub lineEnd : List ℕ
+lineEnd = 10 ∷ []
+
+-- ---- lines
+
+unfoldable pub refusalLine : ℕ → List ℕ
+refusalLine n = ascii "refused " ++ decimal n ++ lineEnd
+
+-- a step; `open` is the list before the step
+unfoldable pub stepLine : ℕ → ℕ → ℕ → List ℕ
+stepLine door task K = ascii "door " ++ decimal door ++ ascii " task " ++ decimal task ++ ascii " open " ++ decimal K ++ lineEnd
+
+abbrev pub stepLines : Sheet → List ℕ → List ℕ
+stepLines S [] = []
+stepLines S (d ∷ ds) = stepLine d (S .task d) (maskOf (map (S .task) (d ∷ ds))) ++ stepLines S ds
+
+unfoldable pub planLines : Sheet → Plan → List ℕ
+planLines S x = ascii "cost " ++ decimal (planCost S x) ++ lineEnd ++ ascii "start " ++ decimal (x .start) ++ lineEnd ++ stepLines S (x .doors)
+
+abbrev pub answerLines : Sheet → Answer Plan → List ℕ
+answerLines S (refused n) = refusalLine n
+answerLines S (accepted x) = planLines S x
+
+-- ---- the program
+
+-- it reads at most this many bytes, one more than the longest sheet has, and plans with this many cells and room for any plan
+abbrev pub printInput : ℕ
+printInput = 9639
+
+abbrev pub printCells : ℕ
+printCells = 4096
+
+unfoldable pub printedFor : List ℕ → List ℕ
+printedFor b = answerLines (decode b) (planFor b printCells (planLength maxTasks))
+
+unfoldable pub printed : List ℕ → List ℕ
+printed input = printedFor (take printInput input)
