@@ -3,6 +3,7 @@ pub mod Walks
 pub mod Masks
 pub mod Lists
 pub mod Choices
+pub mod Limits
 pub mod Ranges
 pub mod Reading
 pub mod Starred

@@ -1,0 +1,49 @@
+-- The numbers of entries of a sheet that 12 does not refuse. Assumes nothing.
+use mathlib.Core.Path.{_≡_, refl, sym, ap, _∙_}
+use mathlib.Core.Bool.{Bool, true, false, not}
+use mathlib.Core.List.{List}
+use Prim.Native.Nat.{ℕ, _*_, _≤_, _<_}
+use native.Mathlib.Omega.{arith}
+use lib.Dec.{lit<}
+use lib.ListN.{getD}
+use borrow.Author.Tests.{not-false}
+use Rattle.model.specs.Walk.{anyBelow, between}
+use Rattle.model.specs.Sheet.{Sheet}
+use Rattle.model.specs.SheetLayout.{maxTasks, maxDoors, maxStarts, maxPairs, maxRules, maxPoints, tasksBody, doorsBody, startsBody, pairsBody, rulesBody, pointsBody, distancesBody, bodies, fewest, most, entries, decode}
+use Rattle.model.specs.Faults.{wrongEntries}
+use Rattle.model.proofs.Tests.{none-at, between-true}
+
+-- each number of entries is within the table
+pub within : (b : List ℕ) → anyBelow bodies (wrongEntries b) ≡ false → (i : ℕ) → i < bodies
+    → (getD (fewest (entries b pointsBody)) i 0 ≤ entries b i) × (entries b i ≤ getD (most (entries b pointsBody)) i 0)
+unfolding wrongEntries
+within b h i l = between-true _ _ (entries b i) (not-false _ (none-at bodies (wrongEntries b) h i l))
+
+pub record CountsWithin (S : Sheet) : Type 0 where
+  pub one-task : 1 ≤ S .tasks
+  pub tasks : S .tasks ≤ maxTasks
+  pub one-door : 1 ≤ S .doors
+  pub doors : S .doors ≤ maxDoors
+  pub one-start : 1 ≤ S .starts
+  pub starts : S .starts ≤ maxStarts
+  pub pairs : S .pairs ≤ maxPairs
+  pub rules : S .rules ≤ maxRules
+  pub one-point : 1 ≤ S .points
+  pub points : S .points ≤ maxPoints
+
+pub counts-within : (b : List ℕ) → anyBelow bodies (wrongEntries b) ≡ false → CountsWithin (decode b)
+unfolding decode fewest most
+counts-within b h =
+    let at : (i : ℕ) → i < bodies → (getD (fewest (entries b pointsBody)) i 0 ≤ entries b i) × (entries b i ≤ getD (most (entries b pointsBody)) i 0) = within b h in
+    record {
+      one-task = at tasksBody (lit< tt) .0;
+      tasks = at tasksBody (lit< tt) .1;
+      one-door = at doorsBody (lit< tt) .0;
+      doors = at doorsBody (lit< tt) .1;
+      one-start = at startsBody (lit< tt) .0;
+      starts = at startsBody (lit< tt) .1;
+      pairs = at pairsBody (lit< tt) .1;
+      rules = at rulesBody (lit< tt) .1;
+      one-point = at pointsBody (lit< tt) .0;
+      points = at pointsBody (lit< tt) .1;
+    }
