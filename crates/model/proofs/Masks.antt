@@ -11,7 +11,7 @@ use borrow.Author.Tests.{eqb-true, eqb-false, eq-eqb, ne-eqb}
 use Rattle.model.specs.Walk.{sumBelow, countBelow}
 use Rattle.model.specs.TaskList.{bit, member, with, without, full, size}
 use Rattle.model.proofs.Tests.{tested}
-use Rattle.model.proofs.Walks.{sum-cong, sum-none, sum-more, sum-zero}
+use Rattle.model.proofs.Walks.{sum-cong, sum-none, sum-more, sum-zero, sum-le}
 
 -- ---- bits
 
@@ -198,6 +198,9 @@ size-without n K t l h = size-is n K
 -- a list of no task is empty
 pub size-zero : (n K : ℕ) → K < 2 ^ n → size n K ≡ 0 → K ≡ 0
 size-zero n K l e = no-bits n K l (sum-zero n (bit K) (sym (size-is n K) ∙ e))
+
+pub size-le : (n K : ℕ) → size n K ≤ n
+size-le n K = omega (arith, size-is n K, sum-le n 1 (bit K) (λ j l. omega (arith, bit-lt K j)))
 
 pub size-full : (n : ℕ) → size n (full n) ≡ n
 size-full n = size-is n (full n) ∙ sum-cong n (bit (full n)) (λ j. 1) (λ j l. full-bit n j l) ∙ ones n

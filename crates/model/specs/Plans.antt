@@ -56,3 +56,7 @@ completions S K = keepIf (isCompletion S K) (listsBelow (S .doors) (size (S .tas
 -- the least cost of finishing from point p with K open: the cost to finish of document 01
 unfoldable pub costToGo : Sheet → ℕ → ℕ → ℕ
 costToGo S K p = least (map (cost S p) (completions S K))
+
+-- the first completion of least cost from point p, by doors
+unfoldable pub cheapestCompletion : Sheet → ℕ → ℕ → Option (List ℕ)
+cheapestCompletion S K p = firstLeast (cost S p) (completions S K)

@@ -1,0 +1,114 @@
+-- Driving as a process, from every point with every list open: completions by their first door, and Bellman's equation for a sheet. Assumes nothing.
+use mathlib.Core.Path.{_≡_, refl, sym, ap, ap₂, _∙_, subst, fun-ext}
+use mathlib.Core.Logic.{_≢_, _⊎_, inl, inr, ⊎-elim}
+use mathlib.Core.Bool.{Bool, true, false, cond, _&&_}
+use mathlib.Core.List.{List, [], _∷_, _++_, map}
+use mathlib.Core.Option.{Option, none, some}
+use Prim.Native.Nat.{ℕ, zero, suc, _+_, _^_, _≤_, _<_}
+use native.Mathlib.Nat.{zero-add}
+use native.Mathlib.Omega.{arith}
+use lib.Dec.{eqb, ltb}
+use borrow.Author.Tests.{eqb-true, eq-eqb, ltb-true, lt-ltb}
+use Rattle.model.specs.Walk.{flatMapBelow, listsBelow, allIn, keepIf, firstLeast, least}
+use Rattle.model.specs.TaskList.{without, size, maskOf}
+use Rattle.model.specs.Sheet.{Sheet}
+use Rattle.model.specs.Orders.{isOrderWithin, canComeFirst}
+use Rattle.model.specs.Cost.{stepCost, cost}
+use Rattle.model.specs.Plans.{inSheet, isCompletion, completions, costToGo, cheapestCompletion}
+use Rattle.model.proofs.Tests.{tested, same-test, and-left, and-right}
+use Rattle.model.proofs.Walks.{keep-cong, flat-cong}
+use Rattle.model.proofs.Masks.{size-none, size-without, without-le}
+use Rattle.model.proofs.Lists.{All, all-kept, all-imply}
+use Rattle.model.proofs.Choices.{first-shift}
+use Rattle.model.proofs.Process.{Process, completes, runs, runsFrom, runs-end, runs-by-first, runCost, toGo, bestRun, through, ablesBelow, FirstStep}
+use Rattle.model.proofs.Ranges.{InRange}
+use Rattle.model.proofs.FirstTask.{within-cons, first-bit, nil-size, size-nil, mask-is}
+
+-- where the van stands, and what is open
+pub record Position : Type 0 where
+  pub list : ℕ
+  pub point : ℕ
+
+module _ (S : Sheet) (R : InRange S) where
+  abbrev pub driving : Process
+  driving = record {
+    State = Position;
+    choices = S .doors;
+    left = λ x. size (S .tasks) (x .list);
+    able = λ x d. canComeFirst S (x .list) (S .task d);
+    stepCost = λ x d. stepCost S (x .list) (x .point) d;
+    next = λ x d. record { list = without (x .list) (S .task d); point = S .depart d };
+    endCost = λ x. S .endCost (x .point);
+    fewer = λ x d l a. size-without (S .tasks) (x .list) (S .task d) (R .task d l) (first-bit S (x .list) (S .task d) a);
+  }
+
+  -- a completion of the list is a completion of the process
+  pub completes-is : (ds : List ℕ) (K p : ℕ) → completes driving (record { list = K; point = p }) ds ≡ isCompletion S K ds
+  unfolding isCompletion inSheet
+  completes-is [] K p = same-test _ _ (λ e. size-nil S R K (eqb-true (size (S .tasks) K) 0 e)) (λ e. eq-eqb (size (S .tasks) K) 0 (nil-size S K e))
+  completes-is (d ∷ ds) K p = ⊎-elim
+      (λ (w : ltb d (S .doors) ≡ true). rw w
+      (ap (λ b. canComeFirst S K (S .task d) && b) (completes-is ds (without K (S .task d)) (S .depart d))
+      ∙ swap (canComeFirst S K (S .task d)) (allIn (λ d. ltb d (S .doors)) ds) (isOrderWithin S (without K (S .task d)) (map (S .task) ds))
+      ∙ ap (λ b. allIn (λ d. ltb d (S .doors)) ds && b) (sym (within-cons S K (S .task d) (map (S .task) ds) (R .task d (ltb-true d (S .doors) w))))))
+      (λ (w : ltb d (S .doors) ≡ false). rw w)
+      (tested (ltb d (S .doors)))
+    where
+      swap : (a b c : Bool) → (a && (b && c)) ≡ (b && (a && c))
+      swap true b c = refl
+      swap false true c = refl
+      swap false false c = refl
+
+  pub completions-are : (K p : ℕ) → completions S K ≡ runs driving (record { list = K; point = p })
+  unfolding completions
+  completions-are K p = sym (keep-cong _ _ (λ ds. completes-is ds K p) (listsBelow (S .doors) (size (S .tasks) K)))
+
+  -- the completions of a list by their first door, as one equation of lists
+  pub completions-by-first : (K k : ℕ) → size (S .tasks) K ≡ suc k
+      → completions S K ≡ flatMapBelow (S .doors) (λ d. cond (canComeFirst S K (S .task d)) (map (λ (ds : List ℕ). d ∷ ds) (completions S (without K (S .task d)))) [])
+  completions-by-first K k e = completions-are K 0 ∙ runs-by-first driving (record { list = K; point = 0 }) k e
+      ∙ flat-cong (S .doors) _ _ (λ d l. ap (λ xs. cond (canComeFirst S K (S .task d)) (map (λ (ds : List ℕ). d ∷ ds) xs) []) (sym (completions-are (without K (S .task d)) (S .depart d))))
+
+  -- with nothing open there is the empty completion
+  pub completions-none : completions S 0 ≡ [] ∷ []
+  completions-none = completions-are 0 0 ∙ runs-end driving (record { list = 0; point = 0 }) (size-none (S .tasks))
+
+  -- ---- costs
+
+  -- the tasks of the doors to come are the open list
+  pub open-is : (ds : List ℕ) (K : ℕ) → K < 2 ^ S .tasks → isCompletion S K ds ≡ true → maskOf (map (S .task) ds) ≡ K
+  unfolding isCompletion
+  open-is ds K l e = mask-is S (map (S .task) ds) K l (and-right (inSheet S ds) (isOrderWithin S K (map (S .task) ds)) e)
+
+  pub cost-is : (ds : List ℕ) (K p : ℕ) → K < 2 ^ S .tasks → isCompletion S K ds ≡ true → cost S p ds ≡ runCost driving (record { list = K; point = p }) ds
+  cost-is [] K p l e = refl
+  cost-is (d ∷ ds) K p l e =
+      let c = completes-is (d ∷ ds) K p ∙ e in
+      let r = and-right (ltb d (S .doors) && canComeFirst S K (S .task d)) (completes driving (record { list = without K (S .task d); point = S .depart d }) ds) c in
+      ap₂ (λ (m v : ℕ). stepCost S m p d + v) (open-is (d ∷ ds) K l e)
+      (cost-is ds (without K (S .task d)) (S .depart d) (omega (arith, without-le K (S .task d))) (sym (completes-is ds (without K (S .task d)) (S .depart d)) ∙ r))
+
+  -- the costs of the completions, one by one
+  costs-are : (K p : ℕ) → K < 2 ^ S .tasks → All (λ ds. cost S p ds ≡ runCost driving (record { list = K; point = p }) ds) (completions S K)
+  unfolding completions
+  costs-are K p l = all-kept _ (isCompletion S K) (λ ds e. cost-is ds K p l e) (listsBelow (S .doors) (size (S .tasks) K))
+
+  pub to-go-is : (K p : ℕ) → K < 2 ^ S .tasks → costToGo S K p ≡ toGo driving (record { list = K; point = p })
+  unfolding costToGo toGo
+  to-go-is K p l = ap least (same (completions S K) (costs-are K p l)) ∙ ap (λ xs. least (map (runCost driving (record { list = K; point = p })) xs)) (completions-are K p)
+    where
+      same : (xs : List (List ℕ)) → All (λ ds. cost S p ds ≡ runCost driving (record { list = K; point = p }) ds) xs
+          → map (cost S p) xs ≡ map (runCost driving (record { list = K; point = p })) xs
+      same [] h = refl
+      same (x ∷ xs) h = ap₂ (λ (v : ℕ) (vs : List ℕ). v ∷ vs) (h .0) (same xs (h .1))
+
+  pub cheapest-is : (K p : ℕ) → K < 2 ^ S .tasks → cheapestCompletion S K p ≡ bestRun driving (record { list = K; point = p })
+  unfolding cheapestCompletion bestRun
+  cheapest-is K p l = first-shift (cost S p) (runCost driving (record { list = K; point = p })) 0 (completions S K)
+      (all-imply _ _ (λ ds h. h ∙ sym (zero-add _)) (completions S K) (costs-are K p l))
+      ∙ ap (firstLeast (runCost driving (record { list = K; point = p }))) (completions-are K p)
+
+  -- with nothing open the end cost is left
+  pub to-go-none : (p : ℕ) → costToGo S 0 p ≡ S .endCost p
+  unfolding costToGo
+  to-go-none p = ap (λ xs. least (map (cost S p) xs)) completions-none

@@ -1,0 +1,140 @@
+-- The load over a list of tasks as a difference of natural numbers: not below zero where 16 does not apply, and how large it can be. Assumes nothing.
+use mathlib.Core.Path.{_≡_, refl, sym, ap, ap₂, _∙_}
+use mathlib.Core.Logic.{⊎-elim}
+use mathlib.Core.Bool.{true, false, cond}
+use Prim.Native.Nat.{ℕ, zero, suc, _+_, _-_, _*_, _≤_, _<_}
+use native.Mathlib.Nat.{le-trans}
+use native.Mathlib.Omega.{arith}
+use lib.Dec.{T, ltb}
+use lib.IntN.{ℤ, pos, negsuc, subℕ, _+ℤ_, natAbs}
+use lib.Signed.{ltZ, nonNeg}
+use borrow.Author.Tests.{ltb-true, ltb-false, lt-ltb, le-ltb}
+use Rattle.model.specs.Walk.{sumBelow}
+use Rattle.model.specs.TaskList.{bit, member}
+use Rattle.model.specs.Sheet.{Sheet}
+use Rattle.model.specs.Cost.{loadBelow, load}
+use Rattle.model.specs.Faults.{lightestBelow, loadBelowZero}
+use Rattle.model.proofs.Tests.{tested}
+use Rattle.model.proofs.Walks.{sum-le, sum-mono}
+use Rattle.model.proofs.Masks.{bit-cases}
+
+-- ---- differences
+
+-- an integer is `up z` less `down z`
+abbrev pub up : ℤ → ℕ
+up (pos n) = n
+up (negsuc n) = 0
+
+abbrev pub down : ℤ → ℕ
+down (pos n) = 0
+down (negsuc n) = suc n
+
+sub-pos : (a b : ℕ) → b ≤ a → subℕ a b ≡ pos (a - b)
+sub-pos a b h = rw le-ltb
+
+sub-neg : (a b : ℕ) → a < b → subℕ a b ≡ negsuc (b - suc a)
+sub-neg a b h = rw lt-ltb
+
+-- equal differences
+sub-same : (a b c d : ℕ) → a + d ≡ c + b → subℕ a b ≡ subℕ c d
+sub-same a b c d e = ⊎-elim
+    (λ (w : ltb a b ≡ true). rw (w, lt-ltb c d (omega (arith, ltb-true))) (ap negsuc (omega (arith, ltb-true))))
+    (λ (w : ltb a b ≡ false). rw (w, le-ltb c d (omega (arith, ltb-false))) (ap pos (omega (arith, ltb-false))))
+    (tested (ltb a b))
+
+pos-sub : (n : ℕ) → pos n ≡ subℕ n 0
+pos-sub n = rw (le-ltb n 0 (omega arith)) (ap pos (omega arith))
+
+negsuc-sub : (n : ℕ) → negsuc n ≡ subℕ 0 (suc n)
+negsuc-sub n = rw (lt-ltb 0 (suc n) (omega arith)) (ap negsuc (omega arith))
+
+sub-add : (a b : ℕ) (z : ℤ) → subℕ a b +ℤ z ≡ subℕ (a + up z) (b + down z)
+sub-add a b (pos u) = ⊎-elim
+    (λ (w : ltb a b ≡ true). ap (λ x. x +ℤ pos u) (sub-neg a b (ltb-true a b w)) ∙ sub-same u (suc (b - suc a)) (a + u) (b + 0) (omega (arith, ltb-true)))
+    (λ (w : ltb a b ≡ false). ap (λ x. x +ℤ pos u) (sub-pos a b (ltb-false a b w)) ∙ pos-sub (a - b + u) ∙ sub-same (a - b + u) 0 (a + u) (b + 0) (omega (arith, ltb-false)))
+    (tested (ltb a b))
+sub-add a b (negsuc v) = ⊎-elim
+    (λ (w : ltb a b ≡ true). ap (λ x. x +ℤ negsuc v) (sub-neg a b (ltb-true a b w)) ∙ negsuc-sub (suc (b - suc a + v))
+    ∙ sub-same 0 (suc (suc (b - suc a + v))) (a + 0) (b + suc v) (omega (arith, ltb-true)))
+    (λ (w : ltb a b ≡ false). ap (λ x. x +ℤ negsuc v) (sub-pos a b (ltb-false a b w)) ∙ sub-same (a - b) (suc v) (a + 0) (b + suc v) (omega (arith, ltb-false)))
+    (tested (ltb a b))
+
+-- a difference is below zero where less is added than taken away
+sub-negative : (a b : ℕ) → ltZ (subℕ a b) (pos 0) ≡ ltb a b
+sub-negative a b = ⊎-elim
+    (λ (w : ltb a b ≡ true). rw w)
+    (λ (w : ltb a b ≡ false). rw w (le-ltb (a - b) 0 (omega arith)))
+    (tested (ltb a b))
+
+-- and is no larger than either
+sub-magnitude : (a b m : ℕ) → a ≤ m → b ≤ m → natAbs (subℕ a b) ≤ m
+sub-magnitude a b m h k = ⊎-elim
+    (λ (w : ltb a b ≡ true). rw w (omega (arith, ltb-true)))
+    (λ (w : ltb a b ≡ false). rw w (omega arith))
+    (tested (ltb a b))
+
+-- ---- the load
+
+-- what the tasks of K below n add, and what they take away
+unfoldable pub ups : Sheet → ℕ → ℕ → ℕ
+ups S K n = sumBelow n (λ j. bit K j * up (S .change j))
+
+unfoldable pub downs : Sheet → ℕ → ℕ → ℕ
+downs S K n = sumBelow n (λ j. bit K j * down (S .change j))
+
+-- the part of task n, where it is in K
+part : (f : ℤ → ℕ) → f (pos 0) ≡ 0 → (K n : ℕ) (z : ℤ) → f (cond (member K n) z (pos 0)) ≡ bit K n * f z
+part f e K n z = ⊎-elim (λ (w : bit K n ≡ 0). rw w (omega arith)) (λ (w : bit K n ≡ 1). rw w (omega arith)) (bit-cases K n)
+
+-- the load is a difference: the end load and what is added, less what is taken away
+pub load-over : (S : Sheet) (K n : ℕ) → loadBelow S K n ≡ subℕ (S .endLoad + ups S K n) (downs S K n)
+unfolding ups downs
+load-over S K zero = pos-sub (S .endLoad) ∙ sub-same (S .endLoad) 0 (S .endLoad + 0) 0 (omega arith)
+load-over S K (suc n) =
+    let z : ℤ = cond (member K n) (S .change n) (pos 0) in
+    let u : S .endLoad + ups S K n + up z ≡ S .endLoad + ups S K (suc n) = omega (arith, part up refl K n (S .change n)) in
+    let d : downs S K n + down z ≡ downs S K (suc n) = omega (arith, part down refl K n (S .change n)) in
+    ap (λ x. x +ℤ z) (load-over S K n) ∙ sub-add (S .endLoad + ups S K n) (downs S K n) z ∙ ap₂ subℕ u d
+
+once : (K j x : ℕ) → bit K j * x ≤ x
+once K j x = ⊎-elim (λ (w : bit K j ≡ 0). rw w (omega arith)) (λ (w : bit K j ≡ 1). rw w (omega arith)) (bit-cases K j)
+
+-- a load, and each part of its sum, is at most m, up or down; nothing is asked of its sign
+pub load-below-magnitude : (S : Sheet) (K n u d m : ℕ) → ((j : ℕ) → j < n → up (S .change j) ≤ u) → ((j : ℕ) → j < n → down (S .change j) ≤ d)
+    → S .endLoad + n * u ≤ m → n * d ≤ m → natAbs (loadBelow S K n) ≤ m
+unfolding ups downs
+load-below-magnitude S K n u d m hu hd h k = rw (load-over S K n) (sub-magnitude (S .endLoad + ups S K n) (downs S K n) m
+    (omega (arith, sum-le n u (λ j. bit K j * up (S .change j)) (λ j l. le-trans (once K j (up (S .change j))) (hu j l))))
+    (omega (arith, sum-le n d (λ j. bit K j * down (S .change j)) (λ j l. le-trans (once K j (down (S .change j))) (hd j l)))))
+
+pub load-magnitude : (S : Sheet) (K u d m : ℕ) → ((j : ℕ) → j < S .tasks → up (S .change j) ≤ u) → ((j : ℕ) → j < S .tasks → down (S .change j) ≤ d)
+    → S .endLoad + S .tasks * u ≤ m → S .tasks * d ≤ m → natAbs (load S K) ≤ m
+unfolding load
+load-magnitude S K = load-below-magnitude S K (S .tasks)
+
+-- ---- 16
+
+-- the lightest load takes all away and adds nothing
+lightest-over : (S : Sheet) (n : ℕ) → lightestBelow S n ≡ subℕ (S .endLoad) (sumBelow n (λ j. down (S .change j)))
+lightest-over S zero = pos-sub (S .endLoad)
+lightest-over S (suc n) =
+    ap (λ x. x +ℤ cond (ltZ (S .change n) (pos 0)) (S .change n) (pos 0)) (lightest-over S n) ∙ taken (S .endLoad) (sumBelow n (λ j. down (S .change j))) (S .change n)
+  where
+    taken : (a b : ℕ) (z : ℤ) → subℕ a b +ℤ cond (ltZ z (pos 0)) z (pos 0) ≡ subℕ a (b + down z)
+    taken a b (pos u) = rw (le-ltb u 0 (omega arith)) (sub-add a b (pos 0) ∙ ap (λ x. subℕ x (b + 0)) (omega arith))
+    taken a b (negsuc v) = sub-add a b (negsuc v) ∙ ap (λ x. subℕ x (b + suc v)) (omega arith)
+
+-- all that is taken away is at most the end load
+down-le : (S : Sheet) → loadBelowZero S ≡ false → sumBelow (S .tasks) (λ j. down (S .change j)) ≤ S .endLoad
+unfolding loadBelowZero
+down-le S h = ltb-false _ _ (sym (ap (λ x. ltZ x (pos 0)) (lightest-over S (S .tasks)) ∙ sub-negative (S .endLoad) _) ∙ h)
+
+-- where 16 does not apply, the load is a natural number
+pub load-is : (S : Sheet) (K : ℕ) → loadBelowZero S ≡ false → load S K ≡ pos (S .endLoad + ups S K (S .tasks) - downs S K (S .tasks))
+unfolding load downs
+load-is S K h = load-over S K (S .tasks) ∙ sub-pos (S .endLoad + ups S K (S .tasks)) (downs S K (S .tasks))
+    (omega (arith, down-le S h, sum-mono (S .tasks) (λ j. bit K j * down (S .change j)) (λ j. down (S .change j)) (λ j l. once K j (down (S .change j)))))
+
+-- where 16 does not apply, no list of tasks has a load below zero
+pub load-not-negative : (S : Sheet) (K : ℕ) → loadBelowZero S ≡ false → T (nonNeg (load S K))
+load-not-negative S K h = rw (load-is S K h) tt

@@ -1,0 +1,245 @@
+-- A process that is run to its end: its completions by their first choice, Bellman's equation, and the first completion of least cost. Assumes nothing.
+use mathlib.Core.Path.{_≡_, refl, sym, ap, ap₂, _∙_, subst}
+use mathlib.Core.Logic.{_≢_, _⊎_, inl, inr, ⊎-elim}
+use mathlib.Core.Bool.{Bool, true, false, cond, _&&_, true≢false}
+use mathlib.Core.List.{List, [], _∷_, _++_, map, append-nil}
+use mathlib.Core.Option.{Option, none, some, Option·map, Option·none-ne-some, Option·some-injective}
+use Prim.Native.Nat.{ℕ, zero, suc, _+_, _≤_, _<_}
+use native.Mathlib.Nat.{zero-add}
+use native.Mathlib.Omega.{arith}
+use lib.Dec.{eqb, ltb}
+use borrow.Author.Tests.{eq-eqb, ltb-true, ltb-false, lt-ltb}
+use Rattle.model.specs.Walk.{flatMapBelow, listsBelow, keepIf, cheaper, firstLeast, least}
+use Rattle.model.proofs.Tests.{tested, eq-or-lt, not-both}
+use Rattle.model.proofs.Walks.{flat-cong, keep-flat, keep-cong, keep-none, keep-map}
+use Rattle.model.proofs.Lists.{All, AllSome, all-flat, all-kept, all-imply, all-some}
+use Rattle.model.proofs.Choices.{all-first, first-append, first-map, first-shift, first-flat, first-some, ables, costOf, least-is}
+
+-- ---- the first of least cost among the numbers below n that pass a test
+
+module _ (f : ℕ → ℕ) (able : ℕ → Bool) where
+  -- those numbers, in their order
+  abbrev pub ablesBelow : ℕ → List ℕ
+  ablesBelow n = flatMapBelow n (λ i. cond (able i) (i ∷ []) [])
+
+  pub record FirstOf (n c : ℕ) : Type 0 where
+    pub below : c < n
+    pub is-able : able c ≡ true
+    pub least-one : (i : ℕ) → i < n → able i ≡ true → f c ≤ f i
+    pub first-one : (i : ℕ) → i < c → able i ≡ true → f c < f i
+
+  abbrev pub Scanned : ℕ → Option ℕ → Type 0
+  Scanned n none = (i : ℕ) → i < n → able i ≡ false
+  Scanned n (some c) = FirstOf n c
+
+  -- one number more: it is not able, or it is compared with the first of least cost so far
+  skip : (n : ℕ) (o : Option ℕ) → able n ≡ false → Scanned n o → Scanned (suc n) o
+  skip n none e h = λ i l. ⊎-elim (λ (w : i ≡ n). ap able w ∙ e) (λ (w : i < n). h i w) (eq-or-lt i n l)
+  skip n (some c) e h = record {
+    below = omega (arith, h .below);
+    is-able = h .is-able;
+    least-one = λ i l a. ⊎-elim (λ (w : i ≡ n). absurd (not-both a (ap able w ∙ e))) (λ (w : i < n). h .least-one i w a) (eq-or-lt i n l);
+    first-one = h .first-one;
+  }
+
+  take-up : (n : ℕ) (o : Option ℕ) → able n ≡ true → Scanned n o → Scanned (suc n) (cheaper f o (some n))
+  take-up n none e h = record {
+    below = omega arith;
+    is-able = e;
+    least-one = λ i l a. ⊎-elim (λ (w : i ≡ n). rw w (omega arith)) (λ (w : i < n). absurd (not-both a (h i w))) (eq-or-lt i n l);
+    first-one = λ i l a. absurd (not-both a (h i l));
+  }
+  take-up n (some c) e h = go (ltb (f n) (f c)) refl
+    where
+      go : (b : Bool) → ltb (f n) (f c) ≡ b → Scanned (suc n) (cond b (some n) (some c))
+      go true w =
+          let m : f n < f c = ltb-true _ _ w in
+          record {
+            below = omega arith;
+            is-able = e;
+            least-one = λ i l a. ⊎-elim (λ (v : i ≡ n). rw v (omega arith)) (λ (v : i < n). omega (arith, h .least-one i v a)) (eq-or-lt i n l);
+            first-one = λ i l a. omega (arith, h .least-one i l a);
+          }
+      go false w =
+          let m : f c ≤ f n = ltb-false _ _ w in
+          record {
+            below = omega (arith, h .below);
+            is-able = h .is-able;
+            least-one = λ i l a. ⊎-elim (λ (v : i ≡ n). rw v m) (λ (v : i < n). h .least-one i v a) (eq-or-lt i n l);
+            first-one = h .first-one;
+          }
+
+  pub scan-skip : (n : ℕ) → able n ≡ false → firstLeast f (ablesBelow (suc n)) ≡ firstLeast f (ablesBelow n)
+  scan-skip n e = rw e (ap (firstLeast f) (append-nil (ablesBelow n)))
+
+  pub scan-take : (n : ℕ) → able n ≡ true → firstLeast f (ablesBelow (suc n)) ≡ cheaper f (firstLeast f (ablesBelow n)) (some n)
+  scan-take n e = rw e (first-append f (ablesBelow n) (n ∷ []))
+
+  pub scan : (n : ℕ) → Scanned n (firstLeast f (ablesBelow n))
+  scan zero = λ i l. absurd (omega arith)
+  scan (suc n) = go (scan n) (able n) refl
+    where
+      go : Scanned n (firstLeast f (ablesBelow n)) → (b : Bool) → able n ≡ b → Scanned (suc n) (firstLeast f (ablesBelow (suc n)))
+      go h true e = subst (Scanned (suc n)) (sym (scan-take n e)) (take-up n (firstLeast f (ablesBelow n)) e h)
+      go h false e = subst (Scanned (suc n)) (sym (scan-skip n e)) (skip n (firstLeast f (ablesBelow n)) e h)
+
+-- ---- a process
+
+pub record Process : Type 1 where
+  pub State : Type 0
+  -- choices are numbered below this
+  pub choices : ℕ
+  -- how many choices are still to be made
+  pub left : State → ℕ
+  -- choice c can be made, what it costs, and the state that it leads to
+  pub able : State → ℕ → Bool
+  pub stepCost : State → ℕ → ℕ
+  pub next : State → ℕ → State
+  -- what a state costs in which nothing is left to choose
+  pub endCost : State → ℕ
+  -- one choice made is one less to make
+  pub fewer : (x : State) (c : ℕ) → c < choices → able x c ≡ true → left x ≡ suc (left (next x c))
+
+module _ (P : Process) where
+  -- a completion: choices that can be made one after the other, until none is left
+  abbrev pub completes : P .State → List ℕ → Bool
+  completes x [] = eqb (P .left x) 0
+  completes x (c ∷ cs) = ltb c (P .choices) && P .able x c && completes (P .next x c) cs
+
+  abbrev pub runs : P .State → List (List ℕ)
+  runs x = keepIf (completes x) (listsBelow (P .choices) (P .left x))
+
+  abbrev pub runCost : P .State → List ℕ → ℕ
+  runCost x [] = P .endCost x
+  runCost x (c ∷ cs) = P .stepCost x c + runCost (P .next x c) cs
+
+  -- the cost to go, and the first completion that attains it
+  unfoldable pub toGo : P .State → ℕ
+  toGo x = least (map (runCost x) (runs x))
+
+  unfoldable pub bestRun : P .State → Option (List ℕ)
+  bestRun x = firstLeast (runCost x) (runs x)
+
+  -- choice c, and the cost to go from where it leads
+  unfoldable pub through : P .State → ℕ → ℕ
+  through x c = P .stepCost x c + toGo (P .next x c)
+
+  -- nothing is left: the empty completion
+  pub runs-end : (x : P .State) → P .left x ≡ 0 → runs x ≡ [] ∷ []
+  runs-end x e = ap (λ (k : ℕ). keepIf (completes x) (listsBelow (P .choices) k)) e ∙ ap (λ b. cond b ([] ∷ []) []) (eq-eqb (P .left x) 0 e)
+
+  -- those that begin with c
+  abbrev pub runsFrom : P .State → ℕ → List (List ℕ)
+  runsFrom x c = cond (P .able x c) (map (λ (cs : List ℕ). c ∷ cs) (runs (P .next x c))) []
+
+  one-choice : (x : P .State) (k c : ℕ) → P .left x ≡ suc k → c < P .choices
+      → keepIf (completes x) (map (λ (cs : List ℕ). c ∷ cs) (listsBelow (P .choices) k)) ≡ runsFrom x c
+  one-choice x k c e l = keep-map (completes x) front (listsBelow (P .choices) k) ∙ ⊎-elim
+      (λ (w : P .able x c ≡ true). let same : k ≡ P .left (P .next x c) = omega (arith, P .fewer x c l w) in ap (map front)
+      (keep-cong (λ cs. completes x (front cs)) (completes (P .next x c)) (λ cs. ap₂ (λ a b. a && b && completes (P .next x c) cs) (lt-ltb c (P .choices) l) w) (listsBelow (P .choices) k)
+      ∙ ap (λ (m : ℕ). keepIf (completes (P .next x c)) (listsBelow (P .choices) m)) same)
+      ∙ ap (λ b. cond b (map front (runs (P .next x c))) []) (sym w))
+      (λ (w : P .able x c ≡ false). ap (map front)
+      (keep-none (λ cs. completes x (front cs)) (λ cs. ap₂ (λ a b. a && b && completes (P .next x c) cs) (lt-ltb c (P .choices) l) w) (listsBelow (P .choices) k))
+      ∙ ap (λ b. cond b (map front (runs (P .next x c))) []) (sym w))
+      (tested (P .able x c))
+    where
+      front : List ℕ → List ℕ
+      front cs = c ∷ cs
+
+  -- the completions of a state by their first choice, as one equation of lists
+  pub runs-by-first : (x : P .State) (k : ℕ) → P .left x ≡ suc k → runs x ≡ flatMapBelow (P .choices) (runsFrom x)
+  runs-by-first x k e = ap (λ (m : ℕ). keepIf (completes x) (listsBelow (P .choices) m)) e
+      ∙ keep-flat (completes x) (P .choices) (λ c. map (λ (cs : List ℕ). c ∷ cs) (listsBelow (P .choices) k))
+      ∙ flat-cong (P .choices) _ (runsFrom x) (λ c l. one-choice x k c e l)
+
+  -- the cost to go is the cost of the first completion of least cost
+  pub best-cost : (x : P .State) (cs : List ℕ) → bestRun x ≡ some cs → toGo x ≡ runCost x cs
+  unfolding bestRun toGo
+  best-cost x cs e = least-is (runCost x) (runs x) ∙ ap (costOf (runCost x)) e
+
+  pub best-some : (x : P .State) → (runs x ≡ [] → ⊥) → (cs : List ℕ) × (bestRun x ≡ some cs)
+  unfolding bestRun
+  best-some x h = first-some (runCost x) (runs x) h
+
+  -- ---- one step, from a state in which every choice that can be made leads to a completion
+
+  module _ (x : P .State) (k : ℕ) (more : P .left x ≡ suc k)
+      (live : (c : ℕ) → c < P .choices → P .able x c ≡ true → runs (P .next x c) ≡ [] → ⊥) where
+    -- the first completion of least cost, from where c leads
+    rest : ℕ → List ℕ
+    rest c = mathlib.Core.Option.Option·getD (bestRun (P .next x c)) []
+
+    rest-is : (c : ℕ) → c < P .choices → P .able x c ≡ true → bestRun (P .next x c) ≡ some (rest c)
+    unfolding rest
+    rest-is c l a = let r = best-some (P .next x c) (live c l a) in r .1 ∙ ap (λ o. some (mathlib.Core.Option.Option·getD o [])) (sym (r .1))
+
+    rest-cost : (c : ℕ) → c < P .choices → P .able x c ≡ true → runCost x (c ∷ rest c) ≡ through x c
+    unfolding through
+    rest-cost c l a = ap (λ (v : ℕ). P .stepCost x c + v) (sym (best-cost (P .next x c) (rest c) (rest-is c l a)))
+
+    by-choice : (c : ℕ) → c < P .choices → P .able x c ≡ true → firstLeast (runCost x) (runsFrom x c) ≡ some (c ∷ rest c)
+    unfolding bestRun
+    by-choice c l a = rw a (first-map (runCost x) (λ (cs : List ℕ). c ∷ cs) (runs (P .next x c))
+        ∙ ap (Option·map (λ (cs : List ℕ). c ∷ cs))
+        (first-shift (λ cs. runCost x (c ∷ cs)) (runCost (P .next x c)) (P .stepCost x c) (runs (P .next x c)) (same (runs (P .next x c))) ∙ rest-is c l a))
+      where
+        same : (xs : List (List ℕ)) → All (λ cs. runCost x (c ∷ cs) ≡ P .stepCost x c + runCost (P .next x c) cs) xs
+        same [] = tt
+        same (cs ∷ xs) = (refl, same xs)
+
+    -- the first completion of least cost begins with the first choice of least cost
+    best-by-first : bestRun x ≡ Option·map (λ c. c ∷ rest c) (firstLeast (through x) (ablesBelow (through x) (P .able x) (P .choices)))
+    unfolding bestRun
+    best-by-first = ap (firstLeast (runCost x)) (runs-by-first x k more)
+        ∙ first-flat (runCost x) (runsFrom x) (P .able x) (λ c. c ∷ rest c) (P .choices) by-choice (λ c l a. rw a)
+        ∙ ap (Option·map (λ c. c ∷ rest c))
+        (first-shift (λ c. runCost x (c ∷ rest c)) (through x) 0 (ablesBelow (through x) (P .able x) (P .choices))
+        (all-flat _ (P .choices) _ (λ c l. ⊎-elim
+        (λ (w : P .able x c ≡ true). rw w (rest-cost c l w ∙ sym (zero-add (through x c)), tt))
+        (λ (w : P .able x c ≡ false). rw w tt)
+        (tested (P .able x c)))))
+
+    -- Bellman's equation: the cost to go is the least over the choices, each with the cost to go from where it leads
+    pub bellman : toGo x ≡ least (map (through x) (ablesBelow (through x) (P .able x) (P .choices)))
+    unfolding toGo bestRun
+    bellman = least-is (runCost x) (runs x) ∙ ap (costOf (runCost x)) best-by-first
+        ∙ go (firstLeast (through x) (ablesBelow (through x) (P .able x) (P .choices))) (scan (through x) (P .able x) (P .choices))
+        ∙ sym (least-is (through x) (ablesBelow (through x) (P .able x) (P .choices)))
+      where
+        go : (o : Option ℕ) → Scanned (through x) (P .able x) (P .choices) o → costOf (runCost x) (Option·map (λ c. c ∷ rest c) o) ≡ costOf (through x) o
+        go none h = refl
+        go (some c) h = rest-cost c (h .below) (h .is-able)
+
+    -- the first completion of least cost begins with the first choice whose step plus the cost to go of the rest equals the cost to go
+    -- here, and goes on with the first completion of least cost from there
+    pub record FirstStep : Type 0 where
+      pub choice : ℕ
+      pub others : List ℕ
+      pub below : choice < P .choices
+      pub is-able : P .able x choice ≡ true
+      pub equal : through x choice ≡ toGo x
+      pub none-less : (c : ℕ) → c < P .choices → P .able x c ≡ true → toGo x ≤ through x c
+      pub none-before : (c : ℕ) → c < choice → P .able x c ≡ true → toGo x < through x c
+      pub begins : bestRun x ≡ some (choice ∷ others)
+      pub goes-on : bestRun (P .next x choice) ≡ some others
+
+    pub first-step : (runs x ≡ [] → ⊥) → FirstStep
+    first-step h = go (firstLeast (through x) (ablesBelow (through x) (P .able x) (P .choices))) refl (scan (through x) (P .able x) (P .choices))
+      where
+        go : (o : Option ℕ) → firstLeast (through x) (ablesBelow (through x) (P .able x) (P .choices)) ≡ o → Scanned (through x) (P .able x) (P .choices) o → FirstStep
+        go none e s = absurd (Option·none-ne-some _ (sym (ap (Option·map (λ c. c ∷ rest c)) e) ∙ sym best-by-first ∙ best-some x h .1))
+        go (some c) e s =
+            let b : bestRun x ≡ some (c ∷ rest c) = best-by-first ∙ ap (Option·map (λ c. c ∷ rest c)) e in
+            let q : through x c ≡ toGo x = sym (rest-cost c (s .below) (s .is-able)) ∙ sym (best-cost x (c ∷ rest c) b) in
+            record {
+              choice = c;
+              others = rest c;
+              below = s .below;
+              is-able = s .is-able;
+              equal = q;
+              none-less = λ i l a. omega (arith, s .least-one i l a, q);
+              none-before = λ i l a. omega (arith, s .first-one i l a, q);
+              begins = b;
+              goes-on = rest-is c (s .below) (s .is-able);
+            }

@@ -1,0 +1,92 @@
+-- The widths of a sheet's fields: what bytes below 256 say of the numbers in them. Assumes nothing.
+use mathlib.Core.Path.{_≡_}
+use mathlib.Core.Logic.{⊎-elim}
+use mathlib.Core.Bool.{true, false}
+use mathlib.Core.List.{List, [], _∷_}
+use Prim.Native.Nat.{ℕ, zero, suc, _*_, _^_, _≤_, _<_}
+use native.Mathlib.Nat.{pow-suc}
+use native.Mathlib.Omega.{arith}
+use lib.Dec.{ltb, lit<}
+use lib.ListN.{getD}
+use lib.Pow.{areBytes}
+use borrow.Author.Tests.{ltb-true, ltb-false}
+use Rattle.model.specs.Sheet.{Sheet}
+use Rattle.model.specs.Bytes.{numberAt, signed}
+use Rattle.model.specs.SheetLayout.{tasksBody, doorsBody, startsBody, pairsBody, rulesBody, pointsBody, distancesBody, fieldWidths, fieldWidth, field, decode}
+use Rattle.model.proofs.Tests.{tested, and-left, and-right}
+use Rattle.model.proofs.Loads.{up, down}
+
+-- ---- numbers of k bytes
+
+byte-lt : (b : List ℕ) (i : ℕ) → areBytes b ≡ true → getD b i 0 < 256
+byte-lt [] i h = lit< tt
+byte-lt (x ∷ xs) zero h = ltb-true x 256 (and-left (ltb x 256) (areBytes xs) h)
+byte-lt (x ∷ xs) (suc i) h = byte-lt xs i (and-right (ltb x 256) (areBytes xs) h)
+
+-- a number of k bytes is below 256 to the k
+pub number-lt : (k : ℕ) (b : List ℕ) (i : ℕ) → areBytes b ≡ true → numberAt k b i < 256 ^ k
+unfolding numberAt
+number-lt zero b i h = lit< tt
+number-lt (suc k) b i h = rw pow-suc (omega (arith, byte-lt b i h, number-lt k b (suc i) h))
+
+-- in two's complement it is less than half of that up
+pub signed-up : (k n : ℕ) → n < 256 ^ k → 2 * up (signed k n) < 256 ^ k
+unfolding signed
+signed-up k n h = ⊎-elim
+    (λ (w : ltb (2 * n) (256 ^ k) ≡ true). rw w (ltb-true (2 * n) (256 ^ k) w))
+    (λ (w : ltb (2 * n) (256 ^ k) ≡ false). rw w (omega arith))
+    (tested (ltb (2 * n) (256 ^ k)))
+
+-- and at most half of it down
+pub signed-down : (k n : ℕ) → n < 256 ^ k → 2 * down (signed k n) ≤ 256 ^ k
+unfolding signed
+signed-down k n h = ⊎-elim
+    (λ (w : ltb (2 * n) (256 ^ k) ≡ true). rw w (omega arith))
+    (λ (w : ltb (2 * n) (256 ^ k) ≡ false). rw w (omega (arith, ltb-false (2 * n) (256 ^ k) w)))
+    (tested (ltb (2 * n) (256 ^ k)))
+
+-- ---- the fields of a sheet
+
+pub record Widths (S : Sheet) : Type 0 where
+  pub endLoad : S .endLoad < 2 ^ 16
+  pub change-up : (j : ℕ) → up (S .change j) < 2 ^ 15
+  pub change-down : (j : ℕ) → down (S .change j) ≤ 2 ^ 15
+  pub task : (d : ℕ) → S .task d < 2 ^ 16
+  pub arrive : (d : ℕ) → S .arrive d < 2 ^ 16
+  pub depart : (d : ℕ) → S .depart d < 2 ^ 16
+  pub work : (d : ℕ) → S .work d < 2 ^ 32
+  pub startPoint : (s : ℕ) → S .startPoint s < 2 ^ 16
+  pub sender : (i : ℕ) → S .sender i < 2 ^ 16
+  pub receiver : (i : ℕ) → S .receiver i < 2 ^ 16
+  pub ruleDoor : (i : ℕ) → S .ruleDoor i < 2 ^ 16
+  pub watched : (i : ℕ) → S .watched i < 2 ^ 16
+  pub leastCount : (i : ℕ) → S .leastCount i < 2 ^ 16
+  pub charge : (i : ℕ) → S .charge i < 2 ^ 32
+  pub endCost : (p : ℕ) → S .endCost p < 2 ^ 32
+  pub distance : (p q : ℕ) → S .distance p q < 2 ^ 16
+
+field-lt : (b : List ℕ) → areBytes b ≡ true → (i f e : ℕ) → field b i f e < 256 ^ fieldWidth i f
+unfolding field
+field-lt b h i f e = number-lt (fieldWidth i f) b _ h
+
+-- a sheet of bytes has fields of these widths
+pub widths : (b : List ℕ) → areBytes b ≡ true → Widths (decode b)
+unfolding decode fieldWidth fieldWidths
+widths b h = record {
+  endLoad = number-lt 2 b 2 h;
+  change-up = λ j. omega (arith, signed-up 2 (field b tasksBody 0 j) (field-lt b h tasksBody 0 j));
+  change-down = λ j. omega (arith, signed-down 2 (field b tasksBody 0 j) (field-lt b h tasksBody 0 j));
+  task = field-lt b h doorsBody 0;
+  arrive = field-lt b h doorsBody 1;
+  depart = field-lt b h doorsBody 2;
+  work = field-lt b h doorsBody 3;
+  startPoint = field-lt b h startsBody 0;
+  sender = field-lt b h pairsBody 0;
+  receiver = field-lt b h pairsBody 1;
+  ruleDoor = field-lt b h rulesBody 0;
+  watched = field-lt b h rulesBody 1;
+  leastCount = field-lt b h rulesBody 2;
+  charge = field-lt b h rulesBody 3;
+  endCost = field-lt b h pointsBody 0;
+  distance = λ p q. field-lt b h distancesBody 0 _;
+}
