@@ -3,19 +3,19 @@ use mathlib.Core.Path.{_≡_, refl, sym, ap, _∙_}
 use mathlib.Core.Logic.{_↔_, ⊎-elim}
 use mathlib.Core.Bool.{true, false}
 use mathlib.Core.List.{List, [], _∷_, List·Memᴰ, List·Memᴰ·not-nil, List·Memᴰ·cases-cons}
-use Prim.Native.Nat.{ℕ, suc, _^_, _≤_, _<_}
-use native.Mathlib.Nat.{zero-add}
+use Prim.Native.Nat.{ℕ, zero, suc, _^_, _≤_, _<_}
+use native.Mathlib.Nat.{zero-add, mul-one}
 use native.Mathlib.Numerals.{one-add}
 use native.Mathlib.Omega.{arith}
 use lib.Dec.{eqb, ltb}
 use lib.ListN.{length}
 use borrow.Author.Tests.{eqb-true, eq-eqb, ne-eqb, ltb-true, ltb-false}
 use Rattle.model.specs.Walk.{sumBelow, allIn, countOf}
-use Rattle.model.specs.TaskList.{bit, size}
+use Rattle.model.specs.TaskList.{bit, full, size}
 use Rattle.model.specs.Orders.{isOrder}
-use Rattle.model.proofs.Tests.{tested, and-left, and-right, and-both, all-at, all-below}
-use Rattle.model.proofs.Walks.{sum-cong, sum-none, sum-more}
-use Rattle.model.proofs.Masks.{bit-lt, bit-above, size-is}
+use Rattle.model.proofs.Tests.{tested, and-left, and-right, and-both, eq-or-lt, all-at, all-below}
+use Rattle.model.proofs.Walks.{sum-cong, sum-none, sum-more, sum-le}
+use Rattle.model.proofs.Masks.{bit-lt, bit-above, full-bit, size-is}
 use Rattle.model.proofs.Lists.{member-all, in-all}
 
 pub order-in : (n K : ℕ) (ts : List ℕ) → isOrder n K ts ≡ true → allIn (λ t. ltb t n) ts ≡ true
@@ -75,3 +75,21 @@ order-means n K ts l = (
       (tested (ltb t n)))))
       (all-below n _ (λ t m. eq-eqb _ _ (h t))),
 )
+
+-- ---- as many tasks as there are, none twice: each once
+
+all-one : (n : ℕ) (f : ℕ → ℕ) → ((j : ℕ) → j < n → f j ≤ 1) → sumBelow n f ≡ n → (j : ℕ) → j < n → f j ≡ 1
+all-one zero f h e j l = absurd (omega arith)
+all-one (suc n) f h e j l =
+    let m : sumBelow n f ≤ n = rw mul-one at (sum-le n 1 f (λ j l. h j (omega arith))) in
+    let last : f n ≤ 1 = h n (omega arith) in
+    ⊎-elim
+    (λ (w : j ≡ n). ap f w ∙ omega arith)
+    (λ (w : j < n). all-one n f (λ j l. h j (omega arith)) (omega arith) j w)
+    (eq-or-lt j n l)
+
+-- as many tasks as there are, each below n and none twice, are an order of the full list
+pub order-of-all : (n : ℕ) (ts : List ℕ) → allIn (λ t. ltb t n) ts ≡ true → length ts ≡ n → ((t : ℕ) → t < n → countOf t ts ≤ 1) → isOrder n (full n) ts ≡ true
+unfolding isOrder
+order-of-all n ts b e h = and-both b (all-below n _ (λ t l.
+    eq-eqb _ _ (all-one n (λ t. countOf t ts) h (count-total n ts b ∙ e) t l ∙ sym (full-bit n t l))))

@@ -57,22 +57,22 @@ module _ (K : ℕ) where
       go ih false ea false eb false ec l = ih (omega arith)
 
 -- an order of K that keeps the pairs within K has in it one of each smaller list
-pub part-within : (S : Sheet) (K L : ℕ) → ((j : ℕ) → bit L j ≡ 1 → bit K j ≡ 1) → (ts : List ℕ) → isOrderWithin S K ts ≡ true → isOrderWithin S L (part L ts) ≡ true
+pub part-within : (S : Sheet) → InRange S → (K L : ℕ) → ((j : ℕ) → j < S .tasks → bit L j ≡ 1 → bit K j ≡ 1) → (ts : List ℕ) → isOrderWithin S K ts ≡ true → isOrderWithin S L (part L ts) ≡ true
 unfolding isOrderWithin isOrder keepsPairsWithin keepsPair pairWithin
-part-within S K L smaller ts e =
+part-within S R K L smaller ts e =
     let o = and-left (isOrder (S .tasks) K ts) (keepsPairsWithin S K ts) e in
     let k = and-right (isOrder (S .tasks) K ts) (keepsPairsWithin S K ts) e in
     let c : (j : ℕ) → j < S .tasks → countOf j ts ≡ bit K j
     = λ j l. eqb-true _ _ (all-at (S .tasks) (λ t. eqb (countOf t ts) (bit K t)) (and-right (allIn (λ t. ltb t (S .tasks)) ts) _ o) j l) in
     and-both
     (and-both (part-below L (S .tasks) ts (and-left (allIn (λ t. ltb t (S .tasks)) ts) _ o))
-    (all-below (S .tasks) _ (λ j l. eq-eqb _ _ (part-count L j ts ∙ counted j (c j l)))))
+    (all-below (S .tasks) _ (λ j l. eq-eqb _ _ (part-count L j ts ∙ counted j l (c j l)))))
     (all-below (S .pairs) _ (λ i l. paired k i l (member L (S .sender i)) refl (member L (S .receiver i)) refl))
   where
-    counted : (j : ℕ) → countOf j ts ≡ bit K j → bit L j * countOf j ts ≡ bit L j
-    counted j c = ⊎-elim
+    counted : (j : ℕ) → j < S .tasks → countOf j ts ≡ bit K j → bit L j * countOf j ts ≡ bit L j
+    counted j l c = ⊎-elim
         (λ (w : bit L j ≡ 0). rw w (omega arith))
-        (λ (w : bit L j ≡ 1). rw (w, c, smaller j w) (omega arith))
+        (λ (w : bit L j ≡ 1). rw (w, c, smaller j l w) (omega arith))
         (bit-cases L j)
 
     paired : keepsPairsWithin S K ts ≡ true → (i : ℕ) → i < S .pairs → (a : Bool) → member L (S .sender i) ≡ a → (b : Bool) → member L (S .receiver i) ≡ b
@@ -81,8 +81,8 @@ part-within S K L smaller ts e =
     paired k i l true ea false eb = refl
     paired k i l true ea true eb =
         let q = all-at (S .pairs) (λ i. not (member K (S .sender i) && member K (S .receiver i)) || ltb (indexOf (S .sender i) ts) (indexOf (S .receiver i) ts)) k i l in
-        let s : bit K (S .sender i) ≡ 1 = smaller (S .sender i) (member-bit L (S .sender i) ea) in
-        let r : bit K (S .receiver i) ≡ 1 = smaller (S .receiver i) (member-bit L (S .receiver i) eb) in
+        let s : bit K (S .sender i) ≡ 1 = smaller (S .sender i) (R .sender i l) (member-bit L (S .sender i) ea) in
+        let r : bit K (S .receiver i) ≡ 1 = smaller (S .receiver i) (R .receiver i l) (member-bit L (S .receiver i) eb) in
         lt-ltb _ _ (part-index L (S .sender i) (S .receiver i) ea eb ts (ltb-true _ _ (rw (s, r) at q)))
 
 -- every pair lies within the full list

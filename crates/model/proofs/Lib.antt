@@ -15,8 +15,12 @@ pub mod Ranks
 pub mod Enumerations
 pub mod Cheapest
 pub mod NoOrder
+pub mod Numbers
 pub mod Loads
 pub mod Widths
 pub mod Bounds
+pub mod Driving
+pub mod PlanBytes
+pub mod Judging
 pub mod Agreement
 pub mod Starred

@@ -5,7 +5,9 @@ use mathlib.Core.Bool.{Bool, true, false, cond, _&&_}
 use mathlib.Core.List.{List, [], _∷_, _++_, map, append-assoc, append-nil, append-eq-nil-iff}
 use Prim.Native.Nat.{ℕ, zero, suc, _+_, _*_, _≤_, _<_, min}
 use native.Mathlib.Omega.{arith}
-use Rattle.model.specs.Walk.{sumBelow, countBelow, flatMapBelow, keepIf, listsBelow, isEmpty}
+use lib.ListN.{length, getD, length-append, List·getD-append}
+use lib.Seq.{getD-at}
+use Rattle.model.specs.Walk.{sumBelow, flatMapBelow, mapBelow, keepIf, listsBelow, isEmpty}
 use Rattle.model.proofs.Tests.{tested, eq-or-lt}
 
 -- ---- sums
@@ -93,3 +95,19 @@ pub keep-map : {A B : Type 0} (p : B → Bool) (g : A → B) (xs : List A) → k
 keep-map p g [] = refl
 keep-map p g (x ∷ xs) = elim (p (g x)) as (λ b. cond b (g x ∷ keepIf p (map g xs)) (keepIf p (map g xs)) ≡ map g (cond b (x ∷ keepIf (λ x. p (g x)) xs) (keepIf (λ x. p (g x)) xs)))
     [ true ↦ ap (λ l. g x ∷ l) (keep-map p g xs) | false ↦ keep-map p g xs ]
+
+-- ---- the list f 0, f 1, .. below n
+
+module _ {A : Type 0} where
+  pub length-mapBelow : (n : ℕ) (f : ℕ → A) → length (mapBelow n f) ≡ n
+  unfolding mapBelow
+  length-mapBelow zero f = refl
+  length-mapBelow (suc n) f = simp length-append (omega (arith, length-mapBelow n f))
+
+  pub mapBelow-at : (n : ℕ) (f : ℕ → A) (i : ℕ) (d : A) → i < n → getD (mapBelow n f) i d ≡ f i
+  unfolding mapBelow
+  mapBelow-at zero f i d l = absurd (omega arith)
+  mapBelow-at (suc n) f i d l = ⊎-elim
+      (λ (w : i ≡ n). rw w (getD-at (flatMapBelow n (λ j. f j ∷ [])) (f n) [] d n (length-mapBelow n f)))
+      (λ (w : i < n). List·getD-append (flatMapBelow n (λ j. f j ∷ [])) (f n ∷ []) d i (omega (arith, length-mapBelow n f)) ∙ mapBelow-at n f i d w)
+      (eq-or-lt i n l)

@@ -14,20 +14,8 @@ use Rattle.model.specs.Sheet.{Sheet}
 use Rattle.model.specs.Bytes.{numberAt, signed}
 use Rattle.model.specs.SheetLayout.{tasksBody, doorsBody, startsBody, pairsBody, rulesBody, pointsBody, distancesBody, fieldWidths, fieldWidth, field, decode}
 use Rattle.model.proofs.Tests.{tested, and-left, and-right}
+use Rattle.model.proofs.Numbers.{number-lt}
 use Rattle.model.proofs.Loads.{up, down}
-
--- ---- numbers of k bytes
-
-byte-lt : (b : List ℕ) (i : ℕ) → areBytes b ≡ true → getD b i 0 < 256
-byte-lt [] i h = lit< tt
-byte-lt (x ∷ xs) zero h = ltb-true x 256 (and-left (ltb x 256) (areBytes xs) h)
-byte-lt (x ∷ xs) (suc i) h = byte-lt xs i (and-right (ltb x 256) (areBytes xs) h)
-
--- a number of k bytes is below 256 to the k
-pub number-lt : (k : ℕ) (b : List ℕ) (i : ℕ) → areBytes b ≡ true → numberAt k b i < 256 ^ k
-unfolding numberAt
-number-lt zero b i h = lit< tt
-number-lt (suc k) b i h = rw pow-suc (omega (arith, byte-lt b i h, number-lt k b (suc i) h))
 
 -- in two's complement it is less than half of that up
 pub signed-up : (k n : ℕ) → n < 256 ^ k → 2 * up (signed k n) < 256 ^ k

@@ -1,0 +1,180 @@
+-- Validating accepts exactly the well-formed bytes of a solution with its cost. Assumes nothing.
+use mathlib.Core.Path.{_≡_, refl, sym, ap, _∙_}
+use mathlib.Core.Logic.{⊎-elim, _↔_}
+use mathlib.Core.Bool.{Bool, true, false, not, _&&_}
+use mathlib.Core.List.{List, [], _∷_, map}
+use Prim.Native.Nat.{ℕ, zero, suc, _^_, _≤_, _<_}
+use native.Mathlib.Nat.{zero-add, mul-one}
+use native.Mathlib.Numerals.{one-add}
+use native.Mathlib.Omega.{arith}
+use lib.Dec.{eqb, ltb, leb, lit≤}
+use lib.ListN.{length, getD, length-map}
+use lib.Pow.{areBytes}
+use borrow.Author.Tests.{eqb-true, eq-eqb, ne-eqb, ltb-true, ltb-false, lt-ltb, le-ltb, lt-leb, leb-false, not-false}
+use Rattle.model.specs.Walk.{sumBelow, allIn, countOf}
+use Rattle.model.specs.TaskList.{bit, full}
+use Rattle.model.specs.Sheet.{Sheet}
+use Rattle.model.specs.Orders.{isOrder, keepsEveryPair, isAdmissible}
+use Rattle.model.specs.Plans.{inSheet, isSolution, roundCost}
+use Rattle.model.specs.Answer.{Answer, refused, accepted, refuseIf}
+use Rattle.model.specs.SheetLayout.{decode}
+use Rattle.model.specs.PlanLayout.{planBytes, illFormed, startIn, doorsIn, costIn}
+use Rattle.model.specs.Validating.{notInSheet, doneTwice, judged, validate}
+use Rattle.model.proofs.Tests.{and-left, and-right, and-both, or-left, or-right, or-neither, eq-or-lt, all-at, all-below, none-at, none-below}
+use Rattle.model.proofs.Walks.{sum-none, sum-more, sum-cong, sum-le}
+use Rattle.model.proofs.Masks.{full-bit, size-is, size-full}
+use Rattle.model.proofs.Counting.{order-of-all, order-length, order-once}
+use Rattle.model.proofs.Limits.{CountsWithin, counts-within}
+use Rattle.model.proofs.Ranges.{InRange, in-range}
+use Rattle.model.proofs.Reading.{refused-number, accepted-value, refused≢accepted, passed, Reads, reads-then}
+use Rattle.model.proofs.PlanBytes.{length-doors, plan-well-formed, start-again, doors-again, cost-again, well-formed-is}
+
+-- ---- start, doors and cost
+
+-- the tasks of the sheet's doors are the sheet's
+tasks-below : (S : Sheet) → InRange S → (ds : List ℕ) → inSheet S ds ≡ true → allIn (λ t. ltb t (S .tasks)) (map (S .task) ds) ≡ true
+unfolding inSheet
+tasks-below S R [] h = refl
+tasks-below S R (d ∷ ds) h = and-both
+    (lt-ltb (S .task d) (S .tasks) (R .task d (ltb-true d (S .doors) (and-left (ltb d (S .doors)) (inSheet S ds) h))))
+    (tasks-below S R ds (and-right (ltb d (S .doors)) (inSheet S ds) h))
+
+-- the parts of a solution
+pub record Solution (S : Sheet) (s : ℕ) (ds : List ℕ) : Type 0 where
+  pub start : s < S .starts
+  pub doors : inSheet S ds ≡ true
+  pub order : isOrder (S .tasks) (full (S .tasks)) (map (S .task) ds) ≡ true
+  pub pairs : keepsEveryPair S (map (S .task) ds) ≡ true
+
+pub solution : (S : Sheet) (s : ℕ) (ds : List ℕ) → isSolution S s ds ≡ true → Solution S s ds
+unfolding isSolution isAdmissible
+solution S s ds h =
+    let f : (ltb s (S .starts) && inSheet S ds) ≡ true = and-left _ (isAdmissible S (map (S .task) ds)) h in
+    let a : isAdmissible S (map (S .task) ds) ≡ true = and-right (ltb s (S .starts) && inSheet S ds) _ h in
+    record {
+      start = ltb-true s (S .starts) (and-left _ (inSheet S ds) f);
+      doors = and-right (ltb s (S .starts)) _ f;
+      order = and-left _ (keepsEveryPair S (map (S .task) ds)) a;
+      pairs = and-right (isOrder (S .tasks) (full (S .tasks)) (map (S .task) ds)) _ a;
+    }
+
+pub solution-is : (S : Sheet) (s : ℕ) (ds : List ℕ) → Solution S s ds → isSolution S s ds ≡ true
+unfolding isSolution isAdmissible
+solution-is S s ds h = and-both (and-both (lt-ltb s (S .starts) (h .start)) (h .doors)) (and-both (h .order) (h .pairs))
+
+-- a solution has a door for each task
+pub solution-length : (S : Sheet) (s : ℕ) (ds : List ℕ) → Solution S s ds → length ds ≡ S .tasks
+solution-length S s ds h = sym (length-map ds (S .task)) ∙ order-length (S .tasks) (full (S .tasks)) (map (S .task) ds) (h .order) ∙ size-full (S .tasks)
+
+-- what passes 31 to 33 is a solution
+passes-judge : (S : Sheet) → InRange S → (s : ℕ) (ds : List ℕ) → length ds ≡ S .tasks → notInSheet S s ds ≡ false → doneTwice S (map (S .task) ds) ≡ false → keepsEveryPair S (map (S .task) ds) ≡ true
+    → Solution S s ds
+unfolding notInSheet doneTwice
+passes-judge S R s ds e p₁ p₂ p₃ =
+    let i : inSheet S ds ≡ true = not-false _ (or-right (leb (S .starts) s) _ p₁) in
+    record {
+      start = leb-false (S .starts) s (or-left _ (not (inSheet S ds)) p₁);
+      doors = i;
+      order = order-of-all (S .tasks) (map (S .task) ds) (tasks-below S R ds i) (length-map ds (S .task) ∙ e) (λ t l. ltb-false 1 _ (none-at (S .tasks) (λ t. ltb 1 (countOf t (map (S .task) ds))) p₂ t l));
+      pairs = p₃;
+    }
+
+-- and a solution passes them
+in-sheet : (S : Sheet) (s : ℕ) (ds : List ℕ) → Solution S s ds → notInSheet S s ds ≡ false
+unfolding notInSheet
+in-sheet S s ds h = or-neither (lt-leb (S .starts) s (h .start)) (ap not (h .doors))
+
+done-once : (S : Sheet) (s : ℕ) (ds : List ℕ) → Solution S s ds → doneTwice S (map (S .task) ds) ≡ false
+unfolding doneTwice
+done-once S s ds h = none-below (S .tasks) _ (λ t l. le-ltb 1 (countOf t (map (S .task) ds)) (order-once (S .tasks) (full (S .tasks)) (map (S .task) ds) (h .order) t))
+
+-- what is accepted is a solution with its cost, and such a one is accepted
+pub judged-iff : (S : Sheet) → InRange S → (s : ℕ) (ds : List ℕ) (c c' : ℕ) → length ds ≡ S .tasks
+    → (judged S s ds c ≡ accepted c') ↔ ((isSolution S s ds ≡ true) × (c ≡ roundCost S s ds) × (c' ≡ c))
+unfolding judged
+judged-iff S R s ds c c' e = (there, back)
+  where
+    ts : List ℕ
+    ts = map (S .task) ds
+
+    there : judged S s ds c ≡ accepted c' → (isSolution S s ds ≡ true) × (c ≡ roundCost S s ds) × (c' ≡ c)
+    there a =
+        let p₁ = passed (notInSheet S s ds) 31 _ c' a in
+        let p₂ = passed (doneTwice S ts) 32 _ c' (p₁ .1) in
+        let p₃ = passed (not (keepsEveryPair S ts)) 33 _ c' (p₂ .1) in
+        let p₄ = passed (not (eqb c (roundCost S s ds))) 34 _ c' (p₃ .1) in
+        (solution-is S s ds (passes-judge S R s ds e (p₁ .0) (p₂ .0) (not-false _ (p₃ .0))), eqb-true _ _ (not-false _ (p₄ .0)), sym (accepted-value (p₄ .1)))
+
+    back : (isSolution S s ds ≡ true) × (c ≡ roundCost S s ds) × (c' ≡ c) → judged S s ds c ≡ accepted c'
+    back h =
+        let x : Solution S s ds = solution S s ds (h .0) in
+        rw (in-sheet S s ds x, done-once S s ds x, x .pairs, eq-eqb _ _ (h .1), h .2)
+
+-- ---- the plan's bytes
+
+element-lt : (n : ℕ) (ds : List ℕ) → allIn (λ d. ltb d n) ds ≡ true → (i : ℕ) → i < length ds → getD ds i 0 < n
+element-lt n [] h i l = absurd (omega arith)
+element-lt n (d ∷ ds) h zero l = ltb-true d n (and-left (ltb d n) (allIn (λ d. ltb d n) ds) h)
+element-lt n (d ∷ ds) h (suc i) l = element-lt n ds (and-right (ltb d n) (allIn (λ d. ltb d n) ds) h) i (omega arith)
+
+-- the bytes are judged by the start, doors and cost that they were written for
+plan-judged : (S : Sheet) → CountsWithin S → (s : ℕ) (ds : List ℕ) (c : ℕ) → Solution S s ds → c < 2 ^ 64
+    → refuseIf (illFormed (S .tasks) (planBytes (S .tasks) s ds c)) 30
+    (judged S (startIn (planBytes (S .tasks) s ds c)) (doorsIn (S .tasks) (planBytes (S .tasks) s ds c)) (costIn (S .tasks) (planBytes (S .tasks) s ds c)))
+    ≡ judged S s ds c
+unfolding inSheet
+plan-judged S W s ds c x l =
+    let n : ℕ = S .tasks in
+    let e : length ds ≡ n = solution-length S s ds x in
+    let small : (i : ℕ) → i < n → getD ds i 0 < 2 ^ 16 = λ i m. omega (arith, element-lt (S .doors) ds (x .doors) i (omega arith), W .doors) in
+    rw (plan-well-formed n s ds c, start-again n s ds c (omega (arith, x .start, W .starts)), doors-again n s ds c e small, cost-again n s ds c l)
+
+-- validating accepts exactly the well-formed bytes of a solution with its cost
+pub validate-iff : (b q : List ℕ) (c : ℕ) → areBytes q ≡ true → Reads b → ((s : ℕ) (ds : List ℕ) → isSolution (decode b) s ds ≡ true → roundCost (decode b) s ds < 2 ^ 64)
+    → (validate b q ≡ accepted c) ↔ ((s : ℕ) × (ds : List ℕ) × (isSolution (decode b) s ds ≡ true) × (c ≡ roundCost (decode b) s ds) × (q ≡ planBytes (decode b .tasks) s ds c))
+unfolding validate
+validate-iff b q c bytes reads small = (there, back)
+  where
+    S : Sheet
+    S = decode b
+
+    R : InRange S
+    R = in-range S (reads .passes .ranges)
+
+    there : validate b q ≡ accepted c → (s : ℕ) × (ds : List ℕ) × (isSolution S s ds ≡ true) × (c ≡ roundCost S s ds) × (q ≡ planBytes (S .tasks) s ds c)
+    there e =
+        let p = passed (illFormed (S .tasks) q) 30 _ c (sym (reads-then b _ reads) ∙ e) in
+        let j = judged-iff S R (startIn q) (doorsIn (S .tasks) q) (costIn (S .tasks) q) c (length-doors (S .tasks) q) .0 (p .1) in
+        (startIn q, doorsIn (S .tasks) q, j .0, j .2 ∙ j .1, rw (j .2) (sym (well-formed-is (S .tasks) q bytes (p .0))))
+
+    back : (s : ℕ) × (ds : List ℕ) × (isSolution S s ds ≡ true) × (c ≡ roundCost S s ds) × (q ≡ planBytes (S .tasks) s ds c) → validate b q ≡ accepted c
+    back (s, ds, solves, costs, e) =
+        let x : Solution S s ds = solution S s ds solves in
+        reads-then b _ reads
+        ∙ rw e (plan-judged S (counts-within b (reads .passes .counts)) s ds c x (rw costs (small s ds solves)))
+        ∙ judged-iff S R s ds c c (solution-length S s ds x) .1 (solves, costs, refl)
+
+-- ---- what it refuses
+
+module _ (r : ℕ) where
+  abbrev Judge : Type 0
+  Judge = (30 ≤ r) × (r ≤ 34)
+
+  next : (t : Bool) (n : ℕ) (a : Answer ℕ) → 30 ≤ n → n ≤ 34 → (a ≡ refused r → Judge) → refuseIf t n a ≡ refused r → Judge
+  next true n a lo hi k e = rw (sym (refused-number e)) (lo, hi)
+  next false n a lo hi k e = k e
+
+  judged-refusals : (S : Sheet) (s : ℕ) (ds : List ℕ) (c : ℕ) → judged S s ds c ≡ refused r → Judge
+  unfolding judged
+  judged-refusals S s ds c =
+      next (notInSheet S s ds) 31 _ (lit≤ tt) (lit≤ tt)
+      (next (doneTwice S (map (S .task) ds)) 32 _ (lit≤ tt) (lit≤ tt)
+      (next (not (keepsEveryPair S (map (S .task) ds))) 33 _ (lit≤ tt) (lit≤ tt)
+      (next (not (eqb c (roundCost S s ds))) 34 (accepted c) (lit≤ tt) (lit≤ tt)
+      (λ e. absurd (refused≢accepted (sym e))))))
+
+-- what is refused on a sheet that reads is refused with one of 30 to 34
+pub judge-refusals : (b q : List ℕ) (r : ℕ) → Reads b → validate b q ≡ refused r → (30 ≤ r) × (r ≤ 34)
+unfolding validate
+judge-refusals b q r h e =
+    next r (illFormed (decode b .tasks) q) 30 _ (lit≤ tt) (lit≤ tt) (judged-refusals r (decode b) _ _ _) (sym (reads-then b _ h) ∙ e)

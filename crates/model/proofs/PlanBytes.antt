@@ -1,0 +1,189 @@
+-- A plan written and then read has its start, doors and cost again; bytes that read as a plan are those that writing it yields. Assumes nothing.
+use mathlib.Core.Path.{_≡_, refl, sym, ap, _∙_, subst}
+use mathlib.Core.Logic.{_⊎_, inl, inr, ⊎-elim}
+use mathlib.Core.Bool.{Bool, true, false, cond, not}
+use mathlib.Core.List.{List, [], _∷_, _++_, append-assoc}
+use Prim.Native.Nat.{ℕ, zero, suc, _+_, _*_, _^_, _≤_, _<_}
+use native.Mathlib.Omega.{arith}
+use lib.Dec.{eqb, ltb}
+use lib.ListN.{length, getD, take, drop, length-append, List·getD-append}
+use lib.Pow.{areBytes}
+use lib.Seq.{take-at, take-all, ext-getD, getD-at}
+use borrow.Author.Tests.{ltb-true, eqb-true, eq-eqb, lt-ltb, le-ltb, not-false}
+use Rattle.model.specs.Walk.{flatMapBelow, mapBelow}
+use Rattle.model.specs.Bytes.{numberAt, bytesOf, overwrite}
+use Rattle.model.specs.Answer.{Answer, refused, accepted, refuseIf}
+use Rattle.model.specs.SheetLayout.{maxTasks, lineAt}
+use Rattle.model.specs.PlanLayout.{planStartAt, planDoorsAt, planCostAt, planLength, lineBytes, planHead, planBytes, wrongTasks, writeAnswer, bytesWritten, writePlan, illFormed, startIn, doorIn, doorsIn, costIn, PlanRead, readPlan}
+use Rattle.model.proofs.Tests.{tested, or-left, or-right, eq-or-lt, same-list, list-same, between-true}
+use Rattle.model.proofs.Walks.{flat-cong}
+use Rattle.model.proofs.Reading.{refused≢accepted, refused-number, accepted-value, passed}
+use Rattle.model.proofs.Walks.{length-mapBelow, mapBelow-at}
+use Rattle.model.proofs.Numbers.{length-bytesOf, bytes-below, bytes-append, bytes-flat, number-front, read-last, written-on, row, length-row, read-row, row-on, overwritten}
+
+-- ---- the parts of a plan
+
+length-head : (n : ℕ) → length (planHead n) ≡ planStartAt
+unfolding planHead lineBytes planStartAt lineAt
+length-head n = simp (length-append, length-bytesOf)
+
+-- as far as the start, and as far as the doors
+abbrev toStart : ℕ → ℕ → List ℕ
+toStart n s = planHead n ++ bytesOf 2 s
+
+abbrev toDoors : ℕ → ℕ → List ℕ → List ℕ
+toDoors n s ds = toStart n s ++ row 2 n (λ i. getD ds i 0)
+
+length-to-start : (n s : ℕ) → length (toStart n s) ≡ planDoorsAt
+unfolding planDoorsAt
+length-to-start n s = simp (length-append, length-head, length-bytesOf)
+
+length-to-doors : (n s : ℕ) (ds : List ℕ) → length (toDoors n s ds) ≡ planCostAt n
+unfolding planCostAt planDoorsAt
+length-to-doors n s ds = simp (length-append, length-head, length-bytesOf, length-row)
+
+-- a plan has the length that its layout says, and its elements are bytes
+pub length-plan : (n s : ℕ) (ds : List ℕ) (c : ℕ) → length (planBytes n s ds c) ≡ planLength n
+unfolding planBytes planLength planCostAt planDoorsAt
+length-plan n s ds c = simp (length-append, length-head, length-bytesOf, length-row)
+
+pub plan-below : (n s : ℕ) (ds : List ℕ) (c : ℕ) → areBytes (planBytes n s ds c) ≡ true
+unfolding planBytes planHead lineBytes
+plan-below n s ds c = search (bytes-append, bytes-below, bytes-flat) depth 12
+
+-- only the first n of the doors are written
+pub plan-cong : (n s : ℕ) (ds es : List ℕ) (c : ℕ) → ((i : ℕ) → i < n → getD ds i 0 ≡ getD es i 0) → planBytes n s ds c ≡ planBytes n s es c
+unfolding planBytes
+plan-cong n s ds es c h =
+    ap (λ (x : List ℕ). toStart n s ++ x ++ bytesOf 8 c) (flat-cong n (λ i. bytesOf 2 (getD ds i 0)) (λ i. bytesOf 2 (getD es i 0)) (λ i l. ap (bytesOf 2) (h i l)))
+
+-- n doors are read
+pub length-doors : (n : ℕ) (q : List ℕ) → length (doorsIn n q) ≡ n
+unfolding doorsIn
+length-doors n q = length-mapBelow n (doorIn q)
+
+-- ---- written, then read
+
+-- what is written is not ill-formed
+plan-head : (n s : ℕ) (ds : List ℕ) (c : ℕ) → take planStartAt (planBytes n s ds c) ≡ planHead n
+unfolding planBytes
+plan-head n s ds c = simp append-assoc (take-at (planHead n) _ planStartAt (length-head n))
+
+pub plan-well-formed : (n s : ℕ) (ds : List ℕ) (c : ℕ) → illFormed n (planBytes n s ds c) ≡ false
+unfolding illFormed
+plan-well-formed n s ds c = rw (eq-eqb _ _ (length-plan n s ds c), plan-head, list-same)
+
+before-cost : (k n s : ℕ) (ds : List ℕ) (c i : ℕ) → i + k ≤ planCostAt n → numberAt k (planBytes n s ds c) i ≡ numberAt k (toDoors n s ds) i
+unfolding planBytes
+before-cost k n s ds c i h = number-front k (toDoors n s ds) (bytesOf 8 c) i (rw length-to-doors h)
+
+-- and its parts are read again: the start, a door, all doors, the cost
+pub start-again : (n s : ℕ) (ds : List ℕ) (c : ℕ) → s < 2 ^ 16 → startIn (planBytes n s ds c) ≡ s
+unfolding startIn planCostAt planDoorsAt
+start-again n s ds c h =
+    before-cost 2 n s ds c planStartAt (omega arith)
+    ∙ number-front 2 (toStart n s) (row 2 n (λ i. getD ds i 0)) planStartAt (omega (arith, length-to-start n s))
+    ∙ rw (← length-head n) (read-last 2 s (planHead n) h)
+
+pub door-again : (n s : ℕ) (ds : List ℕ) (c i : ℕ) → i < n → getD ds i 0 < 2 ^ 16 → doorIn (planBytes n s ds c) i ≡ getD ds i 0
+unfolding doorIn planCostAt
+door-again n s ds c i l h =
+    before-cost 2 n s ds c (planDoorsAt + 2 * i) (omega arith)
+    ∙ rw (← length-to-start n s) (read-row 2 n (λ i. getD ds i 0) (toStart n s) i l h)
+
+pub doors-again : (n s : ℕ) (ds : List ℕ) (c : ℕ) → length ds ≡ n → ((i : ℕ) → i < n → getD ds i 0 < 2 ^ 16) → doorsIn n (planBytes n s ds c) ≡ ds
+unfolding doorsIn
+doors-again n s ds c e h = ext-getD 0 _ ds (length-doors n (planBytes n s ds c) ∙ sym e) (λ i l.
+    let m : i < n = rw length-mapBelow at l in
+    mapBelow-at n (doorIn (planBytes n s ds c)) i 0 m ∙ door-again n s ds c i m (h i m))
+
+pub cost-again : (n s : ℕ) (ds : List ℕ) (c : ℕ) → c < 2 ^ 64 → costIn n (planBytes n s ds c) ≡ c
+unfolding costIn planBytes
+cost-again n s ds c h = rw (← length-to-doors n s ds) (read-last 8 c (toDoors n s ds) h)
+
+-- the array of twelve that reading fills: its first n places are those of f, and those beyond are 0
+abbrev twelve : ℕ → (ℕ → ℕ) → List ℕ
+twelve n f = mapBelow maxTasks (λ i. cond (ltb i n) (f i) 0)
+
+twelve-cong : (n : ℕ) (f g : ℕ → ℕ) → ((i : ℕ) → i < n → f i ≡ g i) → twelve n f ≡ twelve n g
+unfolding mapBelow
+twelve-cong n f g h = flat-cong maxTasks (λ i. cond (ltb i n) (f i) 0 ∷ []) (λ i. cond (ltb i n) (g i) 0 ∷ []) (λ i l. ⊎-elim
+    (λ (w : ltb i n ≡ true). rw (w, h i (ltb-true i n w)))
+    (λ (w : ltb i n ≡ false). rw w)
+    (tested (ltb i n)))
+
+twelve-at : (n : ℕ) (f : ℕ → ℕ) (i : ℕ) → n ≤ maxTasks → i < n → getD (twelve n f) i 0 ≡ f i
+twelve-at n f i h l = mapBelow-at maxTasks (λ i. cond (ltb i n) (f i) 0) i 0 (omega arith) ∙ rw (lt-ltb i n l)
+
+-- a plan written and then read has its start, doors and cost again
+pub read-what-was-written : (n s : ℕ) (ds : List ℕ) (c : ℕ) → wrongTasks n ≡ false → s < 2 ^ 16 → ((i : ℕ) → i < n → getD ds i 0 < 2 ^ 16) → c < 2 ^ 64
+    → readPlan n (planBytes n s ds c) ≡ accepted (record { start = s; doors = mapBelow maxTasks (λ i. cond (ltb i n) (getD ds i 0) 0); cost = c })
+unfolding readPlan
+read-what-was-written n s ds c t hs hd hc = rw (t, plan-well-formed n s ds c) (λ j. accepted (record {
+  start = start-again n s ds c hs j;
+  doors = twelve-cong n (doorIn (planBytes n s ds c)) (λ i. getD ds i 0) (λ i l. door-again n s ds c i l (hd i l)) j;
+  cost = cost-again n s ds c hc j;
+}))
+
+-- ---- read, then written
+
+-- the bytes of a plan that is not ill-formed, from its parts
+pub well-formed-is : (n : ℕ) (q : List ℕ) → areBytes q ≡ true → illFormed n q ≡ false → planBytes n (startIn q) (doorsIn n q) (costIn n q) ≡ q
+unfolding illFormed startIn doorsIn doorIn costIn planBytes planLength planCostAt planDoorsAt
+well-formed-is n q b h =
+    let long : length q ≡ planLength n = eqb-true _ _ (not-false _ (or-left (not (eqb (length q) (planLength n))) _ h)) in
+    let head : take planStartAt q ≡ planHead n = same-list _ _ (not-false _ (or-right (not (eqb (length q) (planLength n))) _ h)) in
+    rw (
+      flat-cong n (λ i. bytesOf 2 (getD (doorsIn n q) i 0)) (λ i. bytesOf 2 (doorIn q i)) (λ i l. ap (bytesOf 2) (mapBelow-at n (doorIn q) i 0 l)),
+      ← head,
+      written-on 2 q planStartAt b (omega arith),
+      row-on 2 n q planDoorsAt b (omega arith),
+      written-on 8 q (planCostAt n) b (omega arith),
+    ) (take-all (planLength n) q (omega arith))
+
+-- bytes that read as a plan are those that writing it yields
+pub write-what-was-read : (n : ℕ) (q : List ℕ) (r : PlanRead) → areBytes q ≡ true → readPlan n q ≡ accepted r → planBytes n (r .start) (r .doors) (r .cost) ≡ q
+unfolding readPlan wrongTasks doorsIn
+write-what-was-read n q r b e =
+    let e₁ = passed (wrongTasks n) 12 _ r e in
+    let e₂ = passed (illFormed n q) 30 _ r (e₁ .1) in
+    let h : n ≤ maxTasks = between-true 1 maxTasks n (not-false _ (e₁ .0)) .1 in
+    subst (λ (x : PlanRead). planBytes n (x .start) (x .doors) (x .cost) ≡ q) (accepted-value (e₂ .1))
+    (plan-cong n (startIn q) (twelve n (doorIn q)) (doorsIn n q) (costIn n q) (λ i l. twelve-at n (doorIn q) i h l ∙ sym (mapBelow-at n (doorIn q) i 0 l))
+    ∙ well-formed-is n q b (e₂ .0))
+
+-- ---- writing into a buffer
+
+-- the plan stands at the front of the buffer, and the rest is as it was
+pub plan-over : (n s : ℕ) (ds : List ℕ) (c : ℕ) (buffer : List ℕ)
+    → (take (planLength n) (overwrite (planBytes n s ds c) buffer) ≡ planBytes n s ds c) × (drop (planLength n) (overwrite (planBytes n s ds c) buffer) ≡ drop (planLength n) buffer)
+plan-over n s ds c buffer = rw length-plan at (overwritten (planBytes n s ds c) buffer)
+
+write-accepts : (n room : ℕ) → wrongTasks n ≡ false → planLength n ≤ room → writeAnswer n room ≡ accepted (planLength n)
+unfolding writeAnswer
+write-accepts n room t l = rw (t, le-ltb room (planLength n) l)
+
+-- writing, where there is room
+pub written : (n s : ℕ) (ds : List ℕ) (c : ℕ) (buffer : List ℕ) → wrongTasks n ≡ false → planLength n ≤ length buffer
+    → (writePlan n s ds c buffer .answer ≡ accepted (planLength n))
+    × (take (planLength n) (writePlan n s ds c buffer .bytes) ≡ planBytes n s ds c)
+    × (drop (planLength n) (writePlan n s ds c buffer .bytes) ≡ drop (planLength n) buffer)
+unfolding writePlan bytesWritten
+written n s ds c buffer t l = let over = plan-over n s ds c buffer in rw (write-accepts n (length buffer) t l) (refl, over .0, over .1)
+
+-- of two faults, one was the answer
+either : {A : Type 0} (t u : Bool) (m n : ℕ) (x : A) (r : ℕ) → refuseIf t m (refuseIf u n (accepted x)) ≡ refused r → (r ≡ m) ⊎ (r ≡ n)
+either true u m n x r e = inl (sym (refused-number e))
+either false true m n x r e = inr (sym (refused-number e))
+either false false m n x r e = absurd (refused≢accepted (sym e))
+
+-- what writing refuses, and that it then writes nothing
+pub write-refusals : (n s : ℕ) (ds : List ℕ) (c : ℕ) (buffer : List ℕ) (r : ℕ) → writePlan n s ds c buffer .answer ≡ refused r
+    → ((r ≡ 12) ⊎ (r ≡ 21)) × (writePlan n s ds c buffer .bytes ≡ buffer)
+unfolding writePlan writeAnswer bytesWritten
+write-refusals n s ds c buffer r e = (either (wrongTasks n) (ltb (length buffer) (planLength n)) 12 21 (planLength n) r e, ap (λ (a : Answer ℕ). bytesWritten a (planBytes n s ds c) buffer) e)
+
+-- what reading refuses
+pub read-refusals : (n : ℕ) (q : List ℕ) (r : ℕ) → readPlan n q ≡ refused r → (r ≡ 12) ⊎ (r ≡ 30)
+unfolding readPlan
+read-refusals n q r e = either (wrongTasks n) (illFormed n q) 12 30 _ r e
