@@ -140,14 +140,15 @@ module _ (S : Sheet) (G : Plannable S) where
 
   -- ---- the whole round: the cheapest plan has the first start of least cost to go, and the cheapest completion from there
 
-  solution-is : (s : ℕ) (ds : List ℕ) → s < S .starts → isSolution S s ds ≡ isCompletion S (full (S .tasks)) ds
+  -- a solution from a start of the sheet is a completion of the full list
+  pub solution-completes : (s : ℕ) (ds : List ℕ) → s < S .starts → isSolution S s ds ≡ isCompletion S (full (S .tasks)) ds
   unfolding isSolution isCompletion
-  solution-is s ds l = rw (lt-ltb s (S .starts) l, admissible-is S (G .ranges) (map (S .task) ds))
+  solution-completes s ds l = rw (lt-ltb s (S .starts) l, admissible-is S (G .ranges) (map (S .task) ds))
 
   pub solutions-by-start : solutions S ≡ flatMapBelow (S .starts) (λ s. map (λ (ds : List ℕ). record { start = s; doors = ds }) (completions S (full (S .tasks))))
   unfolding solutions plans completions
   solutions-by-start = keep-flat _ (S .starts) _ ∙ flat-cong (S .starts) _ _ (λ s l.
       keep-map _ (λ (ds : List ℕ). record { start = s; doors = ds }) (listsBelow (S .doors) (S .tasks))
       ∙ ap (map (λ (ds : List ℕ). record { start = s; doors = ds }))
-      (keep-cong _ (isCompletion S (full (S .tasks))) (λ ds. solution-is s ds l) (listsBelow (S .doors) (S .tasks))
+      (keep-cong _ (isCompletion S (full (S .tasks))) (λ ds. solution-completes s ds l) (listsBelow (S .doors) (S .tasks))
       ∙ ap (λ (n : ℕ). keepIf (isCompletion S (full (S .tasks))) (listsBelow (S .doors) n)) (sym (size-full (S .tasks)))))

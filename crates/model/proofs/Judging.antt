@@ -58,9 +58,9 @@ solution S s ds h =
       pairs = and-right (isOrder (S .tasks) (full (S .tasks)) (map (S .task) ds)) _ a;
     }
 
-pub solution-is : (S : Sheet) (s : ℕ) (ds : List ℕ) → Solution S s ds → isSolution S s ds ≡ true
+pub is-solution : (S : Sheet) (s : ℕ) (ds : List ℕ) → Solution S s ds → isSolution S s ds ≡ true
 unfolding isSolution isAdmissible
-solution-is S s ds h = and-both (and-both (lt-ltb s (S .starts) (h .start)) (h .doors)) (and-both (h .order) (h .pairs))
+is-solution S s ds h = and-both (and-both (lt-ltb s (S .starts) (h .start)) (h .doors)) (and-both (h .order) (h .pairs))
 
 -- a solution has a door for each task
 pub solution-length : (S : Sheet) (s : ℕ) (ds : List ℕ) → Solution S s ds → length ds ≡ S .tasks
@@ -103,7 +103,7 @@ judged-iff S R s ds c c' e = (there, back)
         let p₂ = passed (doneTwice S ts) 32 _ c' (p₁ .1) in
         let p₃ = passed (not (keepsEveryPair S ts)) 33 _ c' (p₂ .1) in
         let p₄ = passed (not (eqb c (roundCost S s ds))) 34 _ c' (p₃ .1) in
-        (solution-is S s ds (passes-judge S R s ds e (p₁ .0) (p₂ .0) (not-false _ (p₃ .0))), eqb-true _ _ (not-false _ (p₄ .0)), sym (accepted-value (p₄ .1)))
+        (is-solution S s ds (passes-judge S R s ds e (p₁ .0) (p₂ .0) (not-false _ (p₃ .0))), eqb-true _ _ (not-false _ (p₄ .0)), sym (accepted-value (p₄ .1)))
 
     back : (isSolution S s ds ≡ true) × (c ≡ roundCost S s ds) × (c' ≡ c) → judged S s ds c ≡ accepted c'
     back h =
@@ -117,17 +117,22 @@ element-lt n [] h i l = absurd (omega arith)
 element-lt n (d ∷ ds) h zero l = ltb-true d n (and-left (ltb d n) (allIn (λ d. ltb d n) ds) h)
 element-lt n (d ∷ ds) h (suc i) l = element-lt n ds (and-right (ltb d n) (allIn (λ d. ltb d n) ds) h) i (omega arith)
 
+-- the start and the doors of a solution fit 16 bits
+pub solution-fits : (S : Sheet) → CountsWithin S → (s : ℕ) (ds : List ℕ) → Solution S s ds → (s < 2 ^ 16) × ((i : ℕ) → i < S .tasks → getD ds i 0 < 2 ^ 16)
+unfolding inSheet
+solution-fits S W s ds x =
+    let e : length ds ≡ S .tasks = solution-length S s ds x in
+    (omega (arith, x .start, W .starts), λ i m. omega (arith, element-lt (S .doors) ds (x .doors) i (omega arith), W .doors))
+
 -- the bytes are judged by the start, doors and cost that they were written for
 plan-judged : (S : Sheet) → CountsWithin S → (s : ℕ) (ds : List ℕ) (c : ℕ) → Solution S s ds → c < 2 ^ 64
     → refuseIf (illFormed (S .tasks) (planBytes (S .tasks) s ds c)) 30
     (judged S (startIn (planBytes (S .tasks) s ds c)) (doorsIn (S .tasks) (planBytes (S .tasks) s ds c)) (costIn (S .tasks) (planBytes (S .tasks) s ds c)))
     ≡ judged S s ds c
-unfolding inSheet
 plan-judged S W s ds c x l =
     let n : ℕ = S .tasks in
-    let e : length ds ≡ n = solution-length S s ds x in
-    let small : (i : ℕ) → i < n → getD ds i 0 < 2 ^ 16 = λ i m. omega (arith, element-lt (S .doors) ds (x .doors) i (omega arith), W .doors) in
-    rw (plan-well-formed n s ds c, start-again n s ds c (omega (arith, x .start, W .starts)), doors-again n s ds c e small, cost-again n s ds c l)
+    let small = solution-fits S W s ds x in
+    rw (plan-well-formed n s ds c, start-again n s ds c (small .0), doors-again n s ds c (solution-length S s ds x) (small .1), cost-again n s ds c l)
 
 -- validating accepts exactly the well-formed bytes of a solution with its cost
 pub validate-iff : (b q : List ℕ) (c : ℕ) → areBytes q ≡ true → Reads b → ((s : ℕ) (ds : List ℕ) → isSolution (decode b) s ds ≡ true → roundCost (decode b) s ds < 2 ^ 64)

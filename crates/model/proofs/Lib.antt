@@ -22,5 +22,7 @@ pub mod Bounds
 pub mod Driving
 pub mod PlanBytes
 pub mod Judging
+pub mod Planning
 pub mod Agreement
+pub mod Demands
 pub mod Starred

@@ -2,26 +2,34 @@
 use mathlib.Core.Path.{_≡_, refl, sym, ap, _∙_, subst}
 use mathlib.Core.Logic.{_⊎_, inl, inr, ⊎-elim}
 use mathlib.Core.Bool.{Bool, true, false, cond, not}
-use mathlib.Core.List.{List, [], _∷_, _++_, append-assoc}
+use mathlib.Core.List.{List, [], _∷_, _++_, append-assoc, append-nil}
 use Prim.Native.Nat.{ℕ, zero, suc, _+_, _*_, _^_, _≤_, _<_}
 use native.Mathlib.Omega.{arith}
 use lib.Dec.{eqb, ltb}
-use lib.ListN.{length, getD, take, drop, length-append, List·getD-append}
+use lib.ListN.{length, getD, take, drop, length-append, drop-of-length-le}
 use lib.Pow.{areBytes}
-use lib.Seq.{take-at, take-all, ext-getD, getD-at}
+use lib.Seq.{length-take-le, take-at, take-all, getD-take, ext-getD}
 use borrow.Author.Tests.{ltb-true, eqb-true, eq-eqb, lt-ltb, le-ltb, not-false}
 use Rattle.model.specs.Walk.{flatMapBelow, mapBelow}
 use Rattle.model.specs.Bytes.{numberAt, bytesOf, overwrite}
 use Rattle.model.specs.Answer.{Answer, refused, accepted, refuseIf}
 use Rattle.model.specs.SheetLayout.{maxTasks, lineAt}
-use Rattle.model.specs.PlanLayout.{planStartAt, planDoorsAt, planCostAt, planLength, lineBytes, planHead, planBytes, wrongTasks, writeAnswer, bytesWritten, writePlan, illFormed, startIn, doorIn, doorsIn, costIn, PlanRead, readPlan}
-use Rattle.model.proofs.Tests.{tested, or-left, or-right, eq-or-lt, same-list, list-same, between-true}
+use Rattle.model.specs.PlanLayout.{planStartAt, planDoorsAt, planCostAt, planLength, lineBytes, planHead, planBytes, wrongTasks, writeAnswer, bytesWritten, writePlan, illFormed, startIn, doorIn, doorsIn, costIn, doorArray, PlanRead, readPlan}
+use Rattle.model.proofs.Tests.{tested, or-left, or-right, eq-or-lt, same-list, list-same, between-true, between-is}
 use Rattle.model.proofs.Walks.{flat-cong}
 use Rattle.model.proofs.Reading.{refused≢accepted, refused-number, accepted-value, passed}
 use Rattle.model.proofs.Walks.{length-mapBelow, mapBelow-at}
 use Rattle.model.proofs.Numbers.{length-bytesOf, bytes-below, bytes-append, bytes-flat, number-front, read-last, written-on, row, length-row, read-row, row-on, overwritten}
 
 -- ---- the parts of a plan
+
+pub length-is : (n : ℕ) → planLength n ≡ 32 + 2 * n
+unfolding planLength planCostAt planDoorsAt planStartAt lineAt
+length-is n = omega arith
+
+pub tasks-fit : (n : ℕ) → 1 ≤ n → n ≤ maxTasks → wrongTasks n ≡ false
+unfolding wrongTasks
+tasks-fit n l h = ap not (between-is 1 maxTasks n l h)
 
 length-head : (n : ℕ) → length (planHead n) ≡ planStartAt
 unfolding planHead lineBytes planStartAt lineAt
@@ -101,27 +109,31 @@ pub cost-again : (n s : ℕ) (ds : List ℕ) (c : ℕ) → c < 2 ^ 64 → costIn
 unfolding costIn planBytes
 cost-again n s ds c h = rw (← length-to-doors n s ds) (read-last 8 c (toDoors n s ds) h)
 
--- the array of twelve that reading fills: its first n places are those of f, and those beyond are 0
-abbrev twelve : ℕ → (ℕ → ℕ) → List ℕ
-twelve n f = mapBelow maxTasks (λ i. cond (ltb i n) (f i) 0)
-
-twelve-cong : (n : ℕ) (f g : ℕ → ℕ) → ((i : ℕ) → i < n → f i ≡ g i) → twelve n f ≡ twelve n g
-unfolding mapBelow
-twelve-cong n f g h = flat-cong maxTasks (λ i. cond (ltb i n) (f i) 0 ∷ []) (λ i. cond (ltb i n) (g i) 0 ∷ []) (λ i l. ⊎-elim
+-- the array that reading fills
+array-cong : (n : ℕ) (f g : ℕ → ℕ) → ((i : ℕ) → i < n → f i ≡ g i) → doorArray n f ≡ doorArray n g
+unfolding doorArray mapBelow
+array-cong n f g h = flat-cong maxTasks (λ i. cond (ltb i n) (f i) 0 ∷ []) (λ i. cond (ltb i n) (g i) 0 ∷ []) (λ i l. ⊎-elim
     (λ (w : ltb i n ≡ true). rw (w, h i (ltb-true i n w)))
     (λ (w : ltb i n ≡ false). rw w)
     (tested (ltb i n)))
 
-twelve-at : (n : ℕ) (f : ℕ → ℕ) (i : ℕ) → n ≤ maxTasks → i < n → getD (twelve n f) i 0 ≡ f i
-twelve-at n f i h l = mapBelow-at maxTasks (λ i. cond (ltb i n) (f i) 0) i 0 (omega arith) ∙ rw (lt-ltb i n l)
+pub array-at : (n : ℕ) (f : ℕ → ℕ) (i : ℕ) → n ≤ maxTasks → i < n → getD (doorArray n f) i 0 ≡ f i
+unfolding doorArray
+array-at n f i h l = mapBelow-at maxTasks (λ i. cond (ltb i n) (f i) 0) i 0 (omega arith) ∙ rw (lt-ltb i n l)
+
+pub array-front : (n : ℕ) (ds : List ℕ) → n ≤ maxTasks → length ds ≡ n → take n (doorArray n (λ i. getD ds i 0)) ≡ ds
+unfolding doorArray
+array-front n ds h e =
+    let l : length (take n (doorArray n (λ i. getD ds i 0))) ≡ n = length-take-le n _ (rw length-mapBelow h) in
+    ext-getD 0 _ ds (l ∙ sym e) (λ i m. let k : i < n = rw l at m in getD-take n _ i 0 k ∙ array-at n (λ i. getD ds i 0) i h k)
 
 -- a plan written and then read has its start, doors and cost again
 pub read-what-was-written : (n s : ℕ) (ds : List ℕ) (c : ℕ) → wrongTasks n ≡ false → s < 2 ^ 16 → ((i : ℕ) → i < n → getD ds i 0 < 2 ^ 16) → c < 2 ^ 64
-    → readPlan n (planBytes n s ds c) ≡ accepted (record { start = s; doors = mapBelow maxTasks (λ i. cond (ltb i n) (getD ds i 0) 0); cost = c })
+    → readPlan n (planBytes n s ds c) ≡ accepted (record { start = s; doors = doorArray n (λ i. getD ds i 0); cost = c })
 unfolding readPlan
 read-what-was-written n s ds c t hs hd hc = rw (t, plan-well-formed n s ds c) (λ j. accepted (record {
   start = start-again n s ds c hs j;
-  doors = twelve-cong n (doorIn (planBytes n s ds c)) (λ i. getD ds i 0) (λ i l. door-again n s ds c i l (hd i l)) j;
+  doors = array-cong n (doorIn (planBytes n s ds c)) (λ i. getD ds i 0) (λ i l. door-again n s ds c i l (hd i l)) j;
   cost = cost-again n s ds c hc j;
 }))
 
@@ -141,6 +153,14 @@ well-formed-is n q b h =
       written-on 8 q (planCostAt n) b (omega arith),
     ) (take-all (planLength n) q (omega arith))
 
+-- bytes that read as a plan are as many as its layout says
+pub read-length : (n : ℕ) (q : List ℕ) (r : PlanRead) → readPlan n q ≡ accepted r → (wrongTasks n ≡ false) × (length q ≡ planLength n)
+unfolding readPlan illFormed
+read-length n q r e =
+    let e₁ = passed (wrongTasks n) 12 _ r e in
+    let e₂ = passed (illFormed n q) 30 _ r (e₁ .1) in
+    (e₁ .0, eqb-true _ _ (not-false _ (or-left (not (eqb (length q) (planLength n))) _ (e₂ .0))))
+
 -- bytes that read as a plan are those that writing it yields
 pub write-what-was-read : (n : ℕ) (q : List ℕ) (r : PlanRead) → areBytes q ≡ true → readPlan n q ≡ accepted r → planBytes n (r .start) (r .doors) (r .cost) ≡ q
 unfolding readPlan wrongTasks doorsIn
@@ -149,7 +169,7 @@ write-what-was-read n q r b e =
     let e₂ = passed (illFormed n q) 30 _ r (e₁ .1) in
     let h : n ≤ maxTasks = between-true 1 maxTasks n (not-false _ (e₁ .0)) .1 in
     subst (λ (x : PlanRead). planBytes n (x .start) (x .doors) (x .cost) ≡ q) (accepted-value (e₂ .1))
-    (plan-cong n (startIn q) (twelve n (doorIn q)) (doorsIn n q) (costIn n q) (λ i l. twelve-at n (doorIn q) i h l ∙ sym (mapBelow-at n (doorIn q) i 0 l))
+    (plan-cong n (startIn q) (doorArray n (doorIn q)) (doorsIn n q) (costIn n q) (λ i l. array-at n (doorIn q) i h l ∙ sym (mapBelow-at n (doorIn q) i 0 l))
     ∙ well-formed-is n q b (e₂ .0))
 
 -- ---- writing into a buffer
@@ -170,6 +190,11 @@ pub written : (n s : ℕ) (ds : List ℕ) (c : ℕ) (buffer : List ℕ) → wron
     × (drop (planLength n) (writePlan n s ds c buffer .bytes) ≡ drop (planLength n) buffer)
 unfolding writePlan bytesWritten
 written n s ds c buffer t l = let over = plan-over n s ds c buffer in rw (write-accepts n (length buffer) t l) (refl, over .0, over .1)
+
+-- a buffer of just that length holds the plan and nothing else
+pub written-whole : (n s : ℕ) (ds : List ℕ) (c : ℕ) (buffer : List ℕ) → wrongTasks n ≡ false → length buffer ≡ planLength n → writePlan n s ds c buffer .bytes ≡ planBytes n s ds c
+unfolding writePlan bytesWritten overwrite
+written-whole n s ds c buffer t e = rw (write-accepts n (length buffer) t (omega arith), length-plan n s ds c, drop-of-length-le buffer {i = planLength n} (omega arith)) (append-nil (planBytes n s ds c))
 
 -- of two faults, one was the answer
 either : {A : Type 0} (t u : Bool) (m n : ℕ) (x : A) (r : ℕ) → refuseIf t m (refuseIf u n (accepted x)) ≡ refused r → (r ≡ m) ⊎ (r ≡ n)

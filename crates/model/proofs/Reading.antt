@@ -107,3 +107,32 @@ refused-reads {A} b a r e =
         (λ (w : r ≡ n). inl (rw w lo, rw w hi))
         (λ (w : (t ≡ false) × (c ≡ refused r)). k (w .0) (w .1))
         (refused-by t n c r e)
+
+-- a sheet that reading does not refuse with 10 to 16 passes them
+pub passes-10-to-16 : (b : List ℕ) → ((r : ℕ) → 10 ≤ r → r ≤ 16 → readSheet b ≡ refused r → ⊥) → Passes b
+unfolding readSheet unlessFault
+passes-10-to-16 b h =
+    let e₁ = next (tooShort b) 10 _ (lit≤ tt) (lit≤ tt) refl in
+    let e₂ = next (wrongKind b) 11 _ (lit≤ tt) (lit≤ tt) (e₁ .1) in
+    let e₃ = next (anyBelow bodies (wrongEntries b)) 12 _ (lit≤ tt) (lit≤ tt) (e₂ .1) in
+    let e₄ = next (anyBelow bodies (wrongLine b) || wrongLength b) 13 _ (lit≤ tt) (lit≤ tt) (e₃ .1) in
+    let e₅ = next (outOfRange (decode b)) 14 _ (lit≤ tt) (lit≤ tt) (e₄ .1) in
+    let e₆ = next (anyBelow (decode b .tasks) (lacksDoor (decode b))) 15 _ (lit≤ tt) (lit≤ tt) (e₅ .1) in
+    let e₇ = next (loadBelowZero (decode b)) 16 _ (lit≤ tt) (lit≤ tt) (e₆ .1) in
+    record { long = e₁ .0; kind = e₂ .0; counts = e₃ .0; places = e₄ .0; ranges = e₅ .0; doors = e₆ .0; light = e₇ .0 }
+  where
+    next : (t : Bool) (n : ℕ) (c : Answer Counts) → 10 ≤ n → n ≤ 16 → readSheet b ≡ refuseIf t n c → (t ≡ false) × (readSheet b ≡ c)
+    next true n c lo hi e = absurd (h n lo hi e)
+    next false n c lo hi e = (refl, e)
+
+-- what reading refuses every call refuses, with the same number
+pub refused-alike : {A B : Type 0} (b : List ℕ) (a : Answer A) (c : Answer B) (x : A) (r : ℕ) → a ≡ accepted x → unlessFault b a ≡ refused r → unlessFault b c ≡ refused r
+unfolding unlessFault
+refused-alike {A} {B} b a c x r w e =
+    alike (tooShort b) 10 _ _ (alike (wrongKind b) 11 _ _ (alike (anyBelow bodies (wrongEntries b)) 12 _ _ (alike (anyBelow bodies (wrongLine b) || wrongLength b) 13 _ _
+    (alike (outOfRange (decode b)) 14 _ _ (alike (anyBelow (decode b .tasks) (lacksDoor (decode b))) 15 _ _ (alike (loadBelowZero (decode b)) 16 _ _ (alike (noOrder (decode b)) 17 a c
+    (λ h. absurd (refused≢accepted (sym h ∙ w)))))))))) e
+  where
+    alike : (t : Bool) (n : ℕ) (f : Answer A) (g : Answer B) → (f ≡ refused r → g ≡ refused r) → refuseIf t n f ≡ refused r → refuseIf t n g ≡ refused r
+    alike true n f g k h = ap refused (refused-number h)
+    alike false n f g k h = k h

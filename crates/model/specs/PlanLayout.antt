@@ -80,7 +80,11 @@ doorsIn n q = mapBelow n (doorIn q)
 unfoldable pub costIn : ℕ → List ℕ → ℕ
 costIn n q = numberAt 8 q (planCostAt n)
 
--- what reading answers: start, doors and cost. The doors fill an array of twelve; those beyond n are 0
+-- n doors in an array of twelve; those beyond n are 0
+unfoldable pub doorArray : ℕ → (ℕ → ℕ) → List ℕ
+doorArray n door = mapBelow maxTasks (λ i. cond (ltb i n) (door i) 0)
+
+-- what reading answers: start, doors and cost
 pub record PlanRead : Type 0 where
   pub start : ℕ
   pub doors : List ℕ
@@ -90,4 +94,4 @@ unfoldable pub readPlan : ℕ → List ℕ → Answer PlanRead
 readPlan n q =
     refuseIf (wrongTasks n) 12
     (refuseIf (illFormed n q) 30
-    (accepted (record { start = startIn q; doors = mapBelow maxTasks (λ i. cond (ltb i n) (doorIn q i) 0); cost = costIn n q })))
+    (accepted (record { start = startIn q; doors = doorArray n (doorIn q); cost = costIn n q })))

@@ -1,0 +1,248 @@
+-- The three demands of the mission, as three theorems over the predicates of specs/: `demand-1`, `demand-2` and `demand-3`. Assumes nothing.
+-- An answer is `accepted` or `refused`. Every definition is a total function of any bytes and any numbers, so every call ends and leans on no check made by its caller.
+use mathlib.Core.Path.{_≡_, refl, sym, ap, ap₂, _∙_, subst}
+use mathlib.Core.Logic.{_⊎_, inl, inr, ⊎-elim, _↔_}
+use mathlib.Core.Bool.{Bool, true, false}
+use mathlib.Core.List.{List}
+use mathlib.Core.Option.{some}
+use Prim.Native.Nat.{ℕ, _+_, _*_, _^_, _≤_, _<_}
+use native.Mathlib.Omega.{arith}
+use native.Mathlib.Nat.{lt-of-lt-of-le}
+use lib.Arith.{digits-lt}
+use lib.Dec.{lit≤}
+use lib.ListN.{length, getD, take, drop}
+use lib.Pow.{areBytes}
+use Rattle.model.specs.Sheet.{Sheet}
+use Rattle.model.specs.Orders.{isAdmissible, noOrder, pairsAllow}
+use Rattle.model.specs.Cost.{cost}
+use Rattle.model.specs.Plans.{Plan, isSolution, roundCost, planCost, cheapest, isCompletion, costToGo}
+use Rattle.model.specs.Answer.{Answer, refused, accepted, refuseIf}
+use Rattle.model.specs.SheetLayout.{maxTasks, decode}
+use Rattle.model.specs.Faults.{Counts, readSheet}
+use Rattle.model.specs.PlanLayout.{planLength, planBytes, doorArray, PlanRead, writePlan, readPlan}
+use Rattle.model.specs.Validating.{validate}
+use Rattle.model.specs.Planning.{cellsNeeded, orNoOrder, planFor, carriedOut, plan}
+use Rattle.model.proofs.Reading.{refused≢accepted, Passes, Reads, accepted-reads, refused-reads, refused-alike, passes-10-to-16}
+use Rattle.model.proofs.Ranks.{DoorsBefore, RanksBefore}
+use Rattle.model.proofs.PlanBytes.{length-is, tasks-fit, array-at, array-front, read-what-was-written, read-length, write-what-was-read, plan-over, written, written-whole, write-refusals, read-refusals}
+use Rattle.model.proofs.Bounds.{round-small}
+use Rattle.model.proofs.Limits.{counts-within}
+use Rattle.model.proofs.Enumerations.{no-order-iff}
+use Rattle.model.proofs.Cheapest.{cheapest-solution, cheapest-least, cheapest-first, to-go-attained, to-go-least}
+use Rattle.model.proofs.Driving.{some-completion}
+use Rattle.model.proofs.Judging.{solution, solution-length, solution-fits, validate-iff, judge-refusals}
+use Rattle.model.proofs.Planning.{cell-shown, cell-kept, cell-beyond, length-cells, plan-for, planned, refused-planned, plan-refused, plan-refusals, plannable, has-plan}
+
+-- ---- Demand 1. "A task sheet, whole, torn or stray bytes, is read or refused with one of the numbers 10 to 17. Planning may also be refused with 20 or 21,
+-- judging with 30 to 34. Every call ends, leans on no check made by its caller, and on refusal changes no byte or cell it was lent."
+
+-- one of the sheet's own numbers
+abbrev pub SheetNumber : ℕ → Type 0
+SheetNumber r = (10 ≤ r) × (r ≤ 17)
+
+pub record Demand1 : Type 0 where
+  -- a sheet is read or refused with one of 10 to 17
+  pub reading : (b : List ℕ) (r : ℕ) → readSheet b ≡ refused r → SheetNumber r
+  -- planning may also be refused with 20 or 21; on refusal no cell and no byte changes
+  pub planning : (b cells buffer : List ℕ) (r : ℕ) → plan b cells buffer .answer ≡ refused r
+      → (SheetNumber r ⊎ ((r ≡ 20) ⊎ (r ≡ 21))) × (plan b cells buffer .cells ≡ cells) × (plan b cells buffer .bytes ≡ buffer)
+  -- judging may also be refused with 30 to 34
+  pub judging : (b q : List ℕ) (r : ℕ) → validate b q ≡ refused r → SheetNumber r ⊎ ((30 ≤ r) × (r ≤ 34))
+  -- planning and judging read first: what reading refuses they refuse, with the same number
+  pub reads-first : (b : List ℕ) (r : ℕ) → readSheet b ≡ refused r → (cells buffer q : List ℕ) → (plan b cells buffer .answer ≡ refused r) × (validate b q ≡ refused r)
+  -- writing a plan is refused with 12 or 21, and then no byte changes; reading one with 12 or 30
+  pub writing-a-plan : (n start : ℕ) (doors : List ℕ) (c : ℕ) (buffer : List ℕ) (r : ℕ) → writePlan n start doors c buffer .answer ≡ refused r
+      → ((r ≡ 12) ⊎ (r ≡ 21)) × (writePlan n start doors c buffer .bytes ≡ buffer)
+  pub reading-a-plan : (n : ℕ) (q : List ℕ) (r : ℕ) → readPlan n q ≡ refused r → (r ≡ 12) ⊎ (r ≡ 30)
+
+-- ---- Demand 2. "A plan put before the judge with a sheet that reads is accepted only, and always, when it is well formed and is a solution in the sense of
+-- (2.4) to (2.10) of document 000 with the cost of (2.12), as document 01 fits them to vans. A plan written and then read has its start, doors and cost again,
+-- and bytes that read as a plan are those that writing it yields."
+
+pub record Demand2 : Type 0 where
+  -- accepted with cost c exactly if the bytes are those of a plan that is a solution and costs c
+  pub accepted-iff : (b q : List ℕ) (c : ℕ) (N : Counts) → areBytes b ≡ true → areBytes q ≡ true → readSheet b ≡ accepted N
+      → (validate b q ≡ accepted c)
+      ↔ ((s : ℕ) × (ds : List ℕ) × (isSolution (decode b) s ds ≡ true) × (c ≡ roundCost (decode b) s ds) × (q ≡ planBytes (decode b .tasks) s ds c))
+  -- what was written into any buffer with room for it reads as what was written
+  pub written-then-read : (n start : ℕ) (doors : List ℕ) (c : ℕ) (buffer : List ℕ) → 1 ≤ n → n ≤ maxTasks
+      → start < 2 ^ 16 → ((i : ℕ) → i < n → getD doors i 0 < 2 ^ 16) → c < 2 ^ 64 → 32 + 2 * n ≤ length buffer
+      → (x : PlanRead) × (readPlan n (take (32 + 2 * n) (writePlan n start doors c buffer .bytes)) ≡ accepted x)
+      × (x .start ≡ start) × ((i : ℕ) → i < n → getD (x .doors) i 0 ≡ getD doors i 0) × (x .cost ≡ c)
+  -- what reads as a plan is what writing that plan yields
+  pub read-then-written : (n : ℕ) (q : List ℕ) (x : PlanRead) → areBytes q ≡ true → readPlan n q ≡ accepted x
+      → (buffer : List ℕ) → length buffer ≡ length q → writePlan n (x .start) (x .doors) (x .cost) buffer .bytes ≡ q
+
+-- ---- Demand 3. "For every sheet that passes 10 to 16, with room lent for work and plan and whatever stood in either before, planning refuses, with 17, exactly
+-- when no order of the tasks keeps every pair. Otherwise the bytes written read as such a solution with its cost, and the cost answered is the same. Every other
+-- solution of that sheet, from whichever start listed, costs at least as much, and one that costs the same has a higher start number, or the same start and, where
+-- the doors first differ, a higher door number. And unless planning refuses, the work area then shows, for every open list that the pairs allow, the empty one too,
+-- and for every point, the least cost of finishing from there; units will soon replan in mid-round from those figures."
+
+-- the doors of a plan that was read for the sheet b: as many as there are tasks
+abbrev pub doorsOf : List ℕ → PlanRead → List ℕ
+doorsOf b x = take (decode b .tasks) (x .doors)
+
+-- what planning leaves where it does not refuse
+pub record Cheapest (b cells buffer : List ℕ) : Type 0 where
+  -- the first 32 + 2N bytes read as a plan, and the rest of the buffer stays
+  pub written : PlanRead
+  pub reads-as : readPlan (decode b .tasks) (take (32 + 2 * decode b .tasks) (plan b cells buffer .bytes)) ≡ accepted written
+  pub rest-stays : drop (32 + 2 * decode b .tasks) (plan b cells buffer .bytes) ≡ drop (32 + 2 * decode b .tasks) buffer
+  -- which is a solution, with its cost, and the cost answered is the same
+  pub solution : isSolution (decode b) (written .start) (doorsOf b written) ≡ true
+  pub its-cost : written .cost ≡ roundCost (decode b) (written .start) (doorsOf b written)
+  pub answered : plan b cells buffer .answer ≡ accepted (written .cost)
+  -- every other solution costs at least as much
+  pub none-cheaper : (s : ℕ) (ds : List ℕ) → isSolution (decode b) s ds ≡ true → written .cost ≤ roundCost (decode b) s ds
+  -- and one that costs the same has a higher start, or the same start and a higher door where the doors first differ
+  pub first-of-equals : (s : ℕ) (ds : List ℕ) → isSolution (decode b) s ds ≡ true → roundCost (decode b) s ds ≡ written .cost
+      → ((s ≡ written .start) × (ds ≡ doorsOf b written)) ⊎ ((written .start < s) ⊎ ((written .start ≡ s) × DoorsBefore (doorsOf b written) ds))
+  -- for every list that the pairs allow and every point the cell shows a figure that some completion attains and none undercuts
+  pub attained : (K p : ℕ) → K < 2 ^ decode b .tasks → pairsAllow (decode b) K ≡ true → p < decode b .points
+      → (ds : List ℕ) × (isCompletion (decode b) K ds ≡ true) × (cost (decode b) p ds ≡ getD (plan b cells buffer .cells) (K * decode b .points + p) 0)
+  pub not-undercut : (K p : ℕ) → K < 2 ^ decode b .tasks → pairsAllow (decode b) K ≡ true → p < decode b .points
+      → (ds : List ℕ) → isCompletion (decode b) K ds ≡ true → getD (plan b cells buffer .cells) (K * decode b .points + p) 0 ≤ cost (decode b) p ds
+  -- and the cells are otherwise as lent
+  pub other-lists : (K p : ℕ) → K < 2 ^ decode b .tasks → pairsAllow (decode b) K ≡ false → p < decode b .points
+      → getD (plan b cells buffer .cells) (K * decode b .points + p) 0 ≡ getD cells (K * decode b .points + p) 0
+  pub beyond : (i : ℕ) → 2 ^ decode b .tasks * decode b .points ≤ i → getD (plan b cells buffer .cells) i 0 ≡ getD cells i 0
+  pub as-many : length (plan b cells buffer .cells) ≡ length cells
+
+pub record Demand3 (b cells buffer : List ℕ) : Type 0 where
+  pub refuses-iff : (plan b cells buffer .answer ≡ refused 17) ↔ ((ts : List ℕ) → isAdmissible (decode b) ts ≡ true → ⊥)
+  pub otherwise : (plan b cells buffer .answer ≡ refused 17 → ⊥) → Cheapest b cells buffer
+
+-- the sheet passes 10 to 16, and there is room
+pub record Lent (b cells buffer : List ℕ) : Type 0 where
+  pub bytes : areBytes b ≡ true
+  pub passes : (r : ℕ) → 10 ≤ r → r ≤ 16 → readSheet b ≡ refused r → ⊥
+  pub work-room : 2 ^ decode b .tasks * decode b .points ≤ length cells
+  pub plan-room : 32 + 2 * decode b .tasks ≤ length buffer
+
+-- ---- the proofs
+
+pub demand-1 : Demand1
+unfolding readSheet validate plan planFor
+demand-1 = record {
+  reading = λ b r e. ⊎-elim (λ (h : SheetNumber r). h) (λ (h : Reads b × _). absurd (refused≢accepted (sym (h .1)))) (refused-reads b _ r e);
+  planning = λ b cells buffer r e.
+      let f = refused-planned b cells buffer r e in
+      (plan-refusals b (length cells) (length buffer) r f, ap (λ x. x .cells) (plan-refused b cells buffer r f), ap (λ x. x .bytes) (plan-refused b cells buffer r f));
+  judging = λ b q r e. ⊎-elim (λ (h : SheetNumber r). inl h) (λ (h : Reads b × _). inr (judge-refusals b q r (h .0) e)) (refused-reads b _ r e);
+  reads-first = λ b r e cells buffer q.
+      (ap (λ x. x .answer) (plan-refused b cells buffer r (refused-alike b _ _ _ r refl e)), refused-alike b _ _ _ r refl e);
+  writing-a-plan = write-refusals;
+  reading-a-plan = read-refusals;
+}
+
+pub demand-2 : Demand2
+unfolding readSheet
+demand-2 = record {
+  accepted-iff = λ b q c N hb hq e.
+      let R : Reads b = accepted-reads b _ N e .0 in
+      validate-iff b q c hq R (λ s ds h. lt-of-lt-of-le (round-small b hb R s ds h) (lit≤ tt));
+  written-then-read = λ n start doors c buffer one few hs hd hc room.
+      let t = tasks-fit n one few in
+      let w = written n start doors c buffer t (rw length-is room) in (
+        record { start = start; doors = doorArray n (λ i. getD doors i 0); cost = c },
+        rw (← length-is n) (ap (readPlan n) (w .1) ∙ read-what-was-written n start doors c t hs hd hc),
+        refl,
+        (λ i l. array-at n (λ i. getD doors i 0) i few l),
+        refl,
+      );
+  read-then-written = λ n q x hq e buffer same.
+      let l = read-length n q x e in
+      written-whole n (x .start) (x .doors) (x .cost) buffer (l .0) (same ∙ l .1) ∙ write-what-was-read n q x hq e;
+}
+
+module _ (b cells buffer : List ℕ) (L : Lent b cells buffer) where
+  passes : Passes b
+  passes = passes-10-to-16 b (L .passes)
+
+  -- there is a plan or no order
+  answer-is : planFor b (length cells) (length buffer) ≡ refuseIf (noOrder (decode b)) 17 (orNoOrder (cheapest (decode b)))
+  unfolding cellsNeeded
+  answer-is = plan-for b (length cells) (length buffer) passes (L .work-room) (rw length-is (L .plan-room))
+
+  refused-17 : noOrder (decode b) ≡ true → plan b cells buffer .answer ≡ refused 17
+  refused-17 e = ap (λ x. x .answer) (plan-refused b cells buffer 17 (answer-is ∙ ap (λ t. refuseIf t 17 (orNoOrder (cheapest (decode b)))) e))
+
+  module _ (ordered : noOrder (decode b) ≡ false) where
+    reads : Reads b
+    reads = record { passes = passes; ordered = ordered }
+
+    x : Plan
+    x = has-plan b reads .0
+
+    is-cheapest : cheapest (decode b) ≡ some x
+    unfolding x
+    is-cheapest = has-plan b reads .1
+
+    after : plan b cells buffer ≡ carriedOut (decode b) (accepted x) cells buffer
+    after = planned b cells buffer x (answer-is ∙ ap₂ (λ t o. refuseIf t 17 (orNoOrder o)) ordered is-cheapest)
+
+    solves : isSolution (decode b) (x .start) (x .doors) ≡ true
+    solves = cheapest-solution (decode b) x is-cheapest
+
+    doors-are : take (decode b .tasks) (doorArray (decode b .tasks) (λ i. getD (x .doors) i 0)) ≡ x .doors
+    doors-are = array-front (decode b .tasks) (x .doors) (counts-within b (passes .counts) .tasks)
+        (solution-length (decode b) (x .start) (x .doors) (solution (decode b) (x .start) (x .doors) solves))
+
+    read-back : readPlan (decode b .tasks) (planBytes (decode b .tasks) (x .start) (x .doors) (planCost (decode b) x))
+        ≡ accepted (record { start = x .start; doors = doorArray (decode b .tasks) (λ i. getD (x .doors) i 0); cost = planCost (decode b) x })
+    unfolding planCost
+    read-back =
+        let W = counts-within b (passes .counts) in
+        let small = solution-fits (decode b) W (x .start) (x .doors) (solution (decode b) (x .start) (x .doors) solves) in
+        read-what-was-written (decode b .tasks) (x .start) (x .doors) (planCost (decode b) x) (tasks-fit (decode b .tasks) (W .one-task) (W .tasks)) (small .0) (small .1)
+        (lt-of-lt-of-le (round-small b (L .bytes) reads (x .start) (x .doors) solves) (lit≤ tt))
+
+    -- the cell of a list and a point is lent
+    cell-lent : (K p : ℕ) → K < 2 ^ decode b .tasks → p < decode b .points → K * decode b .points + p < length cells
+    cell-lent K p k l = lt-of-lt-of-le (digits-lt k l) (L .work-room)
+
+    shown : (K p : ℕ) → K < 2 ^ decode b .tasks → pairsAllow (decode b) K ≡ true → p < decode b .points
+        → getD (plan b cells buffer .cells) (K * decode b .points + p) 0 ≡ costToGo (decode b) K p
+    shown K p k a l = rw after (cell-shown (decode b) cells K p l k (cell-lent K p k l) a)
+
+    over : (take (planLength (decode b .tasks)) (plan b cells buffer .bytes) ≡ planBytes (decode b .tasks) (x .start) (x .doors) (planCost (decode b) x))
+        × (drop (planLength (decode b .tasks)) (plan b cells buffer .bytes) ≡ drop (planLength (decode b .tasks)) buffer)
+    over = rw after (plan-over (decode b .tasks) (x .start) (x .doors) (planCost (decode b) x) buffer)
+
+    cheapest-planned : Cheapest b cells buffer
+    unfolding planCost
+    cheapest-planned = record {
+      written = record { start = x .start; doors = doorArray (decode b .tasks) (λ i. getD (x .doors) i 0); cost = planCost (decode b) x };
+      reads-as = rw (← length-is (decode b .tasks)) (ap (readPlan (decode b .tasks)) (over .0) ∙ read-back);
+      rest-stays = rw (← length-is (decode b .tasks)) (over .1);
+      solution = rw doors-are solves;
+      its-cost = rw doors-are;
+      answered = rw after;
+      none-cheaper = cheapest-least (decode b) x is-cheapest;
+      first-of-equals = λ s ds h e. rw doors-are (rank (cheapest-first (decode b) x is-cheapest s ds h e));
+      attained = λ K p k a l. let t = to-go-attained (decode b) K p (some-completion (decode b) (plannable b reads) K) in (t .0, t .1, t .2 ∙ sym (shown K p k a l));
+      not-undercut = λ K p k a l ds h. rw shown (to-go-least (decode b) K p ds h);
+      other-lists = λ K p k a l. rw after (cell-kept (decode b) cells K p l k (cell-lent K p k l) a);
+      beyond = λ i l. rw after (cell-beyond (decode b) cells i (counts-within b (passes .counts) .one-point) l);
+      as-many = rw after (length-cells (decode b) cells);
+    }
+      where
+        rank : {s : ℕ} {ds : List ℕ} → (record { start = s; doors = ds } ≡ x) ⊎ RanksBefore x (record { start = s; doors = ds })
+            → ((s ≡ x .start) × (ds ≡ x .doors)) ⊎ ((x .start < s) ⊎ ((x .start ≡ s) × DoorsBefore (x .doors) ds))
+        rank (inl e) = inl (ap (λ y. y .start) e, ap (λ y. y .doors) e)
+        rank (inr e) = inr e
+
+pub demand-3 : (b cells buffer : List ℕ) → Lent b cells buffer → Demand3 b cells buffer
+demand-3 b cells buffer L = record {
+  refuses-iff = ((λ e. no-order-iff (decode b) .0 (go (noOrder (decode b)) refl e)), λ h. refused-17 b cells buffer L (no-order-iff (decode b) .1 h));
+  otherwise = λ h. cheapest-planned b cells buffer L (not-17 (noOrder (decode b)) refl h);
+}
+  where
+    go : (t : Bool) → noOrder (decode b) ≡ t → plan b cells buffer .answer ≡ refused 17 → noOrder (decode b) ≡ true
+    go true e h = e
+    go false e h = absurd (refused≢accepted (sym h ∙ cheapest-planned b cells buffer L e .answered))
+
+    not-17 : (t : Bool) → noOrder (decode b) ≡ t → (plan b cells buffer .answer ≡ refused 17 → ⊥) → noOrder (decode b) ≡ false
+    not-17 true e h = absurd (h (refused-17 b cells buffer L e))
+    not-17 false e h = e

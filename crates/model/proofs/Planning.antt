@@ -1,0 +1,115 @@
+-- What planning answers and what it leaves in the cells and in the buffer. Assumes nothing.
+use mathlib.Core.Path.{_≡_, refl, sym, ap, ap₂, _∙_, subst}
+use mathlib.Core.Logic.{_⊎_, inl, inr, ⊎-elim}
+use mathlib.Core.Bool.{Bool, true, false, cond, _&&_, and-false}
+use mathlib.Core.List.{List}
+use mathlib.Core.Option.{Option, none, some}
+use Prim.Native.Nat.{ℕ, _+_, _*_, _/_, _%_, _^_, _≤_, _<_}
+use native.Mathlib.Nat.{le-div-iff-mul-le}
+use native.Mathlib.Omega.{arith}
+use lib.Arith.{digits-div, digits-mod}
+use lib.Dec.{ltb}
+use lib.ListN.{length, getD, List·getD-eq-default}
+use borrow.Author.Tests.{ltb-true, ltb-false, lt-ltb, le-ltb}
+use Rattle.model.specs.Sheet.{Sheet}
+use Rattle.model.specs.Orders.{noOrder, pairsAllow}
+use Rattle.model.specs.Plans.{Plan, planCost, cheapest, costToGo}
+use Rattle.model.specs.Answer.{Answer, refused, accepted, refuseIf}
+use Rattle.model.specs.SheetLayout.{decode}
+use Rattle.model.specs.PlanLayout.{planLength}
+use Rattle.model.specs.Faults.{unlessFault}
+use Rattle.model.specs.Planning.{cellsNeeded, orNoOrder, planFor, cellAfter, cellsAfter, carriedOut, Planned, plan}
+use Rattle.model.specs.TaskList.{full}
+use Rattle.model.proofs.Tests.{tested}
+use Rattle.model.proofs.Walks.{length-mapBelow, mapBelow-at}
+use Rattle.model.proofs.Reading.{refused≢accepted, refused-number, Reads, Passes, passes-then, reads-then, accepted-reads, refused-reads}
+use Rattle.model.proofs.Limits.{counts-within}
+use Rattle.model.proofs.Ranges.{in-range, served}
+use Rattle.model.proofs.Cheapest.{cheapest-some}
+use Rattle.model.proofs.Driving.{Plannable, has-completion, solution-completes}
+
+-- ---- cells
+
+module _ (S : Sheet) (cells : List ℕ) where
+  pub length-cells : length (cellsAfter S cells) ≡ length cells
+  unfolding cellsAfter
+  length-cells = length-mapBelow (length cells) _
+
+  cell-at : (i d : ℕ) → i < length cells → getD (cellsAfter S cells) i d ≡ cellAfter S i (getD cells i 0)
+  unfolding cellsAfter
+  cell-at i d l = mapBelow-at (length cells) _ i d l
+
+  module _ (K p : ℕ) (point : p < S .points) (list : K < 2 ^ S .tasks) (room : K * S .points + p < length cells) where
+    -- the cell of a list that the pairs allow shows the cost to go
+    pub cell-shown : pairsAllow S K ≡ true → getD (cellsAfter S cells) (K * S .points + p) 0 ≡ costToGo S K p
+    unfolding cellAfter
+    cell-shown a = cell-at (K * S .points + p) 0 room ∙ rw (digits-div K point, digits-mod K point, lt-ltb K (2 ^ S .tasks) list, a)
+
+    -- the cell of another list keeps its number
+    pub cell-kept : pairsAllow S K ≡ false → getD (cellsAfter S cells) (K * S .points + p) 0 ≡ getD cells (K * S .points + p) 0
+    unfolding cellAfter
+    cell-kept a = cell-at (K * S .points + p) 0 room ∙ rw (digits-div K point, lt-ltb K (2 ^ S .tasks) list, a)
+
+  -- so does a cell beyond
+  pub cell-beyond : (i : ℕ) → 0 < S .points → 2 ^ S .tasks * S .points ≤ i → getD (cellsAfter S cells) i 0 ≡ getD cells i 0
+  unfolding cellAfter
+  cell-beyond i h l = ⊎-elim
+      (λ (w : ltb i (length cells) ≡ true). cell-at i 0 (ltb-true i (length cells) w) ∙ rw (le-ltb (i / S .points) (2 ^ S .tasks) (le-div-iff-mul-le h .1 l)))
+      (λ (w : ltb i (length cells) ≡ false). let o : length cells ≤ i = ltb-false i (length cells) w in
+      List·getD-eq-default (cellsAfter S cells) 0 (rw length-cells o) ∙ sym (List·getD-eq-default cells 0 o))
+      (tested (ltb i (length cells)))
+
+-- ---- the answer
+
+-- with room for the cells and for the bytes, there is a plan or no order
+pub plan-for : (b : List ℕ) (cells room : ℕ) → Passes b → cellsNeeded (decode b) ≤ cells → planLength (decode b .tasks) ≤ room
+    → planFor b cells room ≡ refuseIf (noOrder (decode b)) 17 (orNoOrder (cheapest (decode b)))
+unfolding planFor
+plan-for b cells room h c r = passes-then b _ h ∙ rw (le-ltb cells (cellsNeeded (decode b)) c, le-ltb room (planLength (decode b .tasks)) r)
+
+-- a plan is carried out; a refusal leaves cells and buffer as they were
+pub planned : (b cells buffer : List ℕ) (x : Plan) → planFor b (length cells) (length buffer) ≡ accepted x → plan b cells buffer ≡ carriedOut (decode b) (accepted x) cells buffer
+unfolding plan
+planned b cells buffer x e = ap (λ a. carriedOut (decode b) a cells buffer) e
+
+pub plan-refused : (b cells buffer : List ℕ) (r : ℕ) → planFor b (length cells) (length buffer) ≡ refused r → plan b cells buffer ≡ record { answer = refused r; cells = cells; bytes = buffer }
+unfolding plan
+plan-refused b cells buffer r e = ap (λ a. carriedOut (decode b) a cells buffer) e
+
+-- the answer is that of the plan
+pub refused-planned : (b cells buffer : List ℕ) (r : ℕ) → plan b cells buffer .answer ≡ refused r → planFor b (length cells) (length buffer) ≡ refused r
+unfolding plan
+refused-planned b cells buffer r = go (planFor b (length cells) (length buffer))
+  where
+    go : (a : Answer Plan) → carriedOut (decode b) a cells buffer .answer ≡ refused r → a ≡ refused r
+    go (refused n) e = ap refused (refused-number e)
+    go (accepted x) e = absurd (refused≢accepted (sym e))
+
+-- what planning refuses with: the sheet's own numbers, 20 and 21
+pub plan-refusals : (b : List ℕ) (cells room r : ℕ) → planFor b cells room ≡ refused r → ((10 ≤ r) × (r ≤ 17)) ⊎ ((r ≡ 20) ⊎ (r ≡ 21))
+unfolding planFor
+plan-refusals b cells room r e = ⊎-elim inl
+    (λ (h : Reads b × (refuseIf (ltb cells (cellsNeeded (decode b))) 20 (refuseIf (ltb room (planLength (decode b .tasks))) 21 (orNoOrder (cheapest (decode b)))) ≡ refused r)).
+    go (ltb cells (cellsNeeded (decode b))) (ltb room (planLength (decode b .tasks))) (cheapest (decode b)) (h .1))
+    (refused-reads b _ r e)
+  where
+    go : (t u : Bool) (o : Option Plan) → refuseIf t 20 (refuseIf u 21 (orNoOrder o)) ≡ refused r → ((10 ≤ r) × (r ≤ 17)) ⊎ ((r ≡ 20) ⊎ (r ≡ 21))
+    go true u o q = inr (inl (sym (refused-number q)))
+    go false true o q = inr (inr (sym (refused-number q)))
+    go false false none q = inl (omega (arith, refused-number q))
+    go false false (some x) q = absurd (refused≢accepted (sym q))
+
+-- ---- a sheet that reads has a plan
+
+pub plannable : (b : List ℕ) → Reads b → Plannable (decode b)
+plannable b h = record {
+  ranges = in-range (decode b) (h .passes .ranges);
+  doors = served (decode b) (h .passes .doors);
+  ordered = h .ordered;
+}
+
+pub has-plan : (b : List ℕ) → Reads b → (x : Plan) × (cheapest (decode b) ≡ some x)
+has-plan b h =
+    let G : Plannable (decode b) = plannable b h in
+    let c = has-completion (decode b) G (full (decode b .tasks)) in
+    cheapest-some (decode b) 0 (c .0) (solution-completes (decode b) G 0 (c .0) (counts-within b (h .passes .counts) .one-start) ∙ c .1)
