@@ -30,7 +30,8 @@ use Rattle.model.proofs.Limits.{counts-within}
 use Rattle.model.proofs.Enumerations.{no-order-iff}
 use Rattle.model.proofs.Cheapest.{cheapest-solution, cheapest-least, cheapest-first, to-go-attained, to-go-least}
 use Rattle.model.proofs.Driving.{some-completion}
-use Rattle.model.proofs.Judging.{solution, solution-length, solution-fits, validate-iff, judge-refusals}
+use Rattle.model.proofs.Solutions.{solution, solution-length, solution-fits}
+use Rattle.model.proofs.Judging.{validate-iff, judge-refusals}
 use Rattle.model.proofs.Planning.{cell-shown, cell-kept, cell-beyond, length-cells, plan-for, planned, refused-planned, plan-refused, plan-refusals, plannable, has-plan}
 
 -- ---- Demand 1. "A task sheet, whole, torn or stray bytes, is read or refused with one of the numbers 10 to 17. Planning may also be refused with 20 or 21,

@@ -23,7 +23,8 @@ use Rattle.model.specs.Validating.{notInSheet, doneTwice, judged, valida
 use Rattle.model.proofs.Tests.{and-left, and-right, and-both, or-left, or-right, or-neither, eq-or-lt, all-at, all-below, none-at, none-below}
 use Rattle.model.proofs.Walks.{sum-none, sum-more, sum-cong, sum-le}
 use Rattle.model.proofs.Masks.{full-bit, size-is, size-full}
-use Rattle.model.proofs.Counting.{order-of-all, order-length, order-once}
+use Rattle.model.proofs.Counting.{order-of-all, order-once}
+use Rattle.model.proofs.Solutions.{Solution, solution, is-solution, solution-length, solution-fits}
 use Rattle.model.proofs.Limits.{CountsWithin, counts-within}
 use Rattle.model.proofs.Ranges.{InRange, in-range}
 use Rattle.model.proofs.Reading.{refused-number, accepted-value, refused≢accepted, passed, Reads, reads-then}
@@ -38,33 +39,6 @@ tasks-below S R [] h = refl
 tasks-below S R (d ∷ ds) h = and-both
     (lt-ltb (S .task d) (S .tasks) (R .task d (ltb-true d (S .doors) (and-left (ltb d (S .doors)) (inSheet S ds) h))))
     (tasks-below S R ds (and-right (ltb d (S .doors)) (inSheet S ds) h))
-
--- the parts of a solution
-pub record Solution (S : Sheet) (s : ℕ) (ds : List ℕ) : Type 0 where
-  pub start : s < S .starts
-  pub doors : inSheet S ds ≡ true
-  pub order : isOrder (S .tasks) (full (S .tasks)) (map (S .task) ds) ≡ true
-  pub pairs : keepsEveryPair S (map (S .task) ds) ≡ true
-
-pub solution : (S : Sheet) (s : ℕ) (ds : List ℕ) → isSolution S s ds ≡ true → Solution S s ds
-unfolding isSolution isAdmissible
-solution S s ds h =
-    let f : (ltb s (S .starts) && inSheet S ds) ≡ true = and-left _ (isAdmissible S (map (S .task) ds)) h in
-    let a : isAdmissible S (map (S .task) ds) ≡ true = and-right (ltb s (S .starts) && inSheet S ds) _ h in
-    record {
-      start = ltb-true s (S .starts) (and-left _ (inSheet S ds) f);
-      doors = and-right (ltb s (S .starts)) _ f;
-      order = and-left _ (keepsEveryPair S (map (S .task) ds)) a;
-      pairs = and-right (isOrder (S .tasks) (full (S .tasks)) (map (S .task) ds)) _ a;
-    }
-
-pub is-solution : (S : Sheet) (s : ℕ) (ds : List ℕ) → Solution S s ds → isSolution S s ds ≡ true
-unfolding isSolution isAdmissible
-is-solution S s ds h = and-both (and-both (lt-ltb s (S .starts) (h .start)) (h .doors)) (and-both (h .order) (h .pairs))
-
--- a solution has a door for each task
-pub solution-length : (S : Sheet) (s : ℕ) (ds : List ℕ) → Solution S s ds → length ds ≡ S .tasks
-solution-length S s ds h = sym (length-map ds (S .task)) ∙ order-length (S .tasks) (full (S .tasks)) (map (S .task) ds) (h .order) ∙ size-full (S .tasks)
 
 -- what passes 31 to 33 is a solution
 passes-judge : (S : Sheet) → InRange S → (s : ℕ) (ds : List ℕ) → length ds ≡ S .tasks → notInSheet S s ds ≡ false → doneTwice S (map (S .task) ds) ≡ false → keepsEveryPair S (map (S .task) ds) ≡ true
@@ -111,18 +85,6 @@ judged-iff S R s ds c c' e = (there, back)
         rw (in-sheet S s ds x, done-once S s ds x, x .pairs, eq-eqb _ _ (h .1), h .2)
 
 -- ---- the plan's bytes
-
-element-lt : (n : ℕ) (ds : List ℕ) → allIn (λ d. ltb d n) ds ≡ true → (i : ℕ) → i < length ds → getD ds i 0 < n
-element-lt n [] h i l = absurd (omega arith)
-element-lt n (d ∷ ds) h zero l = ltb-true d n (and-left (ltb d n) (allIn (λ d. ltb d n) ds) h)
-element-lt n (d ∷ ds) h (suc i) l = element-lt n ds (and-right (ltb d n) (allIn (λ d. ltb d n) ds) h) i (omega arith)
-
--- the start and the doors of a solution fit 16 bits
-pub solution-fits : (S : Sheet) → CountsWithin S → (s : ℕ) (ds : List ℕ) → Solution S s ds → (s < 2 ^ 16) × ((i : ℕ) → i < S .tasks → getD ds i 0 < 2 ^ 16)
-unfolding inSheet
-solution-fits S W s ds x =
-    let e : length ds ≡ S .tasks = solution-length S s ds x in
-    (omega (arith, x .start, W .starts), λ i m. omega (arith, element-lt (S .doors) ds (x .doors) i (omega arith), W .doors))
 
 -- the bytes are judged by the start, doors and cost that they were written for
 plan-judged : (S : Sheet) → CountsWithin S → (s : ℕ) (ds : List ℕ) (c : ℕ) → Solution S s ds → c < 2 ^ 64

@@ -21,8 +21,10 @@ pub mod Widths
 pub mod Bounds
 pub mod Driving
 pub mod PlanBytes
+pub mod Solutions
 pub mod Judging
 pub mod Planning
+pub mod Meanings
 pub mod Agreement
 pub mod Demands
 pub mod Starred

@@ -2,7 +2,7 @@
 use lib.Dec.{T}
 use Rattle.model.specs.Examples.{checkStarred}
 use Rattle.model.specs.Walk.{countBelow, between, mapBelow}
-use Rattle.model.specs.TaskList.{bit, with, without, full, size, sizeOfBoth}
+use Rattle.model.specs.TaskList.{bit, with, without, full, size, watchedIn}
 use Rattle.model.specs.Orders.{isOrder, keepsPair, keepsEveryPair, pairWithin, keepsPairsWithin, isAdmissible, isOrderWithin, admissibleOrders, noOrder, essential, pairsAllow}
 use Rattle.model.specs.Cost.{load, ruleCharge, charges, stepCost}
 use Rattle.model.specs.Plans.{inSheet, isSolution, roundCost, planCost, plans, solutions, cheapest, isCompletion, completions, costToGo}
@@ -17,7 +17,7 @@ use Rattle.model.specs.Printing.{decimal, refusalLine, stepLine, planLin
 pub starred : T checkStarred
 unfolding checkStarred
     countBelow between mapBelow
-    bit with without full size sizeOfBoth
+    bit with without full size watchedIn
     isOrder keepsPair keepsEveryPair pairWithin keepsPairsWithin isAdmissible isOrderWithin admissibleOrders noOrder essential pairsAllow
     load ruleCharge charges stepCost
     inSheet isSolution roundCost planCost plans solutions cheapest isCompletion completions costToGo

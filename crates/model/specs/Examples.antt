@@ -1,4 +1,4 @@
--- Sheet A and its neighbours: the starred lines of document 01, by one computed check on the definitions. Assumes nothing.
+-- Sheet A and its neighbours: the starred lines, by one computed check on the definitions (01, Sheet A and its neighbours). Assumes nothing.
 use mathlib.Core.Bool.{Bool, true, false, _&&_}
 use mathlib.Core.List.{List, [], _∷_, _++_}
 use Prim.Native.Nat.{ℕ, _+_, _*_}

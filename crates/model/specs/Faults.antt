@@ -1,4 +1,4 @@
--- The sheet's own faults, 10 to 17, and reading a sheet (document 01, "Numbers a call can answer with"). Assumes nothing.
+-- The sheet's own faults, 10 to 17, and reading a sheet (01, Numbers a call can answer with). Assumes nothing.
 use mathlib.Core.Bool.{Bool, cond, not, _||_}
 use mathlib.Core.List.{List}
 use Prim.Native.Nat.{ℕ, zero, suc, _^_}
@@ -15,58 +15,64 @@ use Rattle.model.specs.SheetLayout.{sheetKind, maxTasks, pointsBody, bod
 
 -- ---- 10 to 13: of the bytes
 
+-- 10: the sheet is shorter than its head
 unfoldable pub tooShort : List ℕ → Bool
 tooShort b = ltb (length b) (lineAt bodies)
 
+-- 11: the kind is not 1
 unfoldable pub wrongKind : List ℕ → Bool
 wrongKind b = not (eqb (numberAt 2 b 0) sheetKind)
 
--- the number of entries of body i is outside the table
+-- 12: the number of entries of body i is outside the table
 unfoldable pub wrongEntries : List ℕ → ℕ → Bool
 wrongEntries b i = not (between (getD (fewest (entries b pointsBody)) i 0) (getD (most (entries b pointsBody)) i 0) (entries b i))
 
--- contents line i has a wrong body number or offset
+-- 13: contents line i has a wrong body number or offset
 unfoldable pub wrongLine : List ℕ → ℕ → Bool
 wrongLine b i = not (eqb (lineBody b i) (suc i)) || not (eqb (lineOffset b i) (bodyAt b i))
 
--- the sheet's length is not the end of its last body
+-- 13: the sheet's length is not the end of its last body
 unfoldable pub wrongLength : List ℕ → Bool
 wrongLength b = not (eqb (length b) (bodyAt b bodies))
 
 -- ---- 14 to 17: of what the sheet says
 
+-- 14, of door d: its task or one of its points is out of range
 unfoldable pub badDoor : Sheet → ℕ → Bool
 badDoor S d = leb (S .tasks) (S .task d) || leb (S .points) (S .arrive d) || leb (S .points) (S .depart d)
 
+-- 14, of start s: its point is out of range
 unfoldable pub badStart : Sheet → ℕ → Bool
 badStart S s = leb (S .points) (S .startPoint s)
 
+-- 14, of pair i: one of its tasks is out of range
 unfoldable pub badPair : Sheet → ℕ → Bool
 badPair S i = leb (S .tasks) (S .sender i) || leb (S .tasks) (S .receiver i)
 
--- a watched bit at N or above makes the list 2 ^ N or more
+-- 14, of access rule i: its door or its least count is out of range, or it has a watched bit at N or above, which makes the list 2 ^ N or more
 unfoldable pub badRule : Sheet → ℕ → Bool
 badRule S i = leb (S .doors) (S .ruleDoor i) || leb (2 ^ S .tasks) (S .watched i) || not (between 1 maxTasks (S .leastCount i))
 
--- a task, point, door or least count is out of range, or a watched bit at N or above
+-- 14: a task, point, door or least count is out of range, or a watched bit at N or above
 unfoldable pub outOfRange : Sheet → Bool
 outOfRange S = anyBelow (S .doors) (badDoor S) || anyBelow (S .starts) (badStart S) || anyBelow (S .pairs) (badPair S) || anyBelow (S .rules) (badRule S)
 
--- task t has no door
+-- 15: task t has no door
 unfoldable pub lacksDoor : Sheet → ℕ → Bool
 lacksDoor S t = allBelow (S .doors) (λ d. not (eqb (S .task d) t))
 
--- the end load and all negative changes; here of the tasks below n
+-- the end load plus all negative changes; here of the tasks below n
 abbrev pub lightestBelow : Sheet → ℕ → ℤ
 lightestBelow S zero = pos (S .endLoad)
 lightestBelow S (suc n) = lightestBelow S n +ℤ cond (ltZ (S .change n) (pos 0)) (S .change n) (pos 0)
 
+-- 16: the end load plus all negative changes is below zero
 unfoldable pub loadBelowZero : Sheet → Bool
 loadBelowZero S = ltZ (lightestBelow S (S .tasks)) (pos 0)
 
 -- ---- the answer: the first fault that applies
 
--- as told, unless the sheet has a fault
+-- as told, unless the sheet has a fault: planning and judging read first
 unfoldable pub unlessFault : {A : Type 0} → List ℕ → Answer A → Answer A
 unlessFault b a =
     refuseIf (tooShort b) 10
@@ -79,10 +85,11 @@ unlessFault b a =
     (refuseIf (noOrder (decode b)) 17
     a)))))))
 
--- a sheet that reads answers N and P
+-- a sheet that reads returns N and P
 pub record Counts : Type 0 where
   pub tasks : ℕ
   pub points : ℕ
 
+-- reading a sheet
 unfoldable pub readSheet : List ℕ → Answer Counts
 readSheet b = unlessFault b (accepted (record { tasks = decode b .tasks; points = decode b .points }))

@@ -1,4 +1,4 @@
--- The layout of a plan (document 01, "Layout of a plan"): writing one and reading one. Assumes nothing.
+-- The layout of a plan: writing one and reading one (01, Layout of a plan, which every definition here is from). Assumes nothing.
 use mathlib.Core.Bool.{Bool, cond, not, _||_}
 use mathlib.Core.List.{List, [], _∷_, _++_}
 use Prim.Native.Nat.{ℕ, suc, _+_, _*_}
@@ -9,6 +9,7 @@ use Rattle.model.specs.Bytes.{numberAt, bytesOf, overwrite}
 use Rattle.model.specs.Answer.{Answer, refused, accepted, refuseIf}
 use Rattle.model.specs.SheetLayout.{maxTasks, lineAt}
 
+-- kind 2, then zero
 abbrev pub planKind : ℕ
 planKind = 2
 
@@ -40,7 +41,7 @@ planHead n = bytesOf 2 planKind ++ bytesOf 2 0 ++ lineBytes 1 planStartAt 1 ++ l
 unfoldable pub planBytes : ℕ → ℕ → List ℕ → ℕ → List ℕ
 planBytes n start doors cost = planHead n ++ bytesOf 2 start ++ flatMapBelow n (λ i. bytesOf 2 (getD doors i 0)) ++ bytesOf 8 cost
 
--- the number of tasks is outside 1 to 12
+-- 12: the number of tasks is outside 1 to 12
 unfoldable pub wrongTasks : ℕ → Bool
 wrongTasks n = not (between 1 maxTasks n)
 
@@ -49,13 +50,16 @@ pub record Written : Type 0 where
   pub answer : Answer ℕ
   pub bytes : List ℕ
 
+-- 12, then 21 for a buffer that is too short, else the length
 unfoldable pub writeAnswer : ℕ → ℕ → Answer ℕ
 writeAnswer n room = refuseIf (wrongTasks n) 12 (refuseIf (ltb room (planLength n)) 21 (accepted (planLength n)))
 
+-- a refusal leaves the buffer as it was
 unfoldable pub bytesWritten : Answer ℕ → List ℕ → List ℕ → List ℕ
 bytesWritten (refused r) bytes buffer = buffer
 bytesWritten (accepted l) bytes buffer = overwrite bytes buffer
 
+-- writing takes n, a start, the first n of an array of twelve doors, a cost and the buffer as lent
 unfoldable pub writePlan : ℕ → ℕ → List ℕ → ℕ → List ℕ → Written
 writePlan n start doors cost buffer = record {
   answer = writeAnswer n (length buffer);
@@ -64,10 +68,11 @@ writePlan n start doors cost buffer = record {
 
 -- ---- reading
 
--- the length or a byte before the start is not as laid out for n doors
+-- 30: the length or a byte before the start is not as laid out for n doors
 unfoldable pub illFormed : ℕ → List ℕ → Bool
 illFormed n q = not (eqb (length q) (planLength n)) || not (sameList (take planStartAt q) (planHead n))
 
+-- the start, door i, the n doors and the cost that the bytes hold
 unfoldable pub startIn : List ℕ → ℕ
 startIn q = numberAt 2 q planStartAt
 
@@ -90,6 +95,7 @@ pub record PlanRead : Type 0 where
   pub doors : List ℕ
   pub cost : ℕ
 
+-- reading takes n and the bytes
 unfoldable pub readPlan : ℕ → List ℕ → Answer PlanRead
 readPlan n q =
     refuseIf (wrongTasks n) 12

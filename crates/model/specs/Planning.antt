@@ -1,4 +1,4 @@
--- Planning: the answer, every cell and every byte afterwards (document 01, "Working"). Assumes nothing.
+-- Planning: the answer, every cell and every byte afterwards (01, Working and Numbers a call can answer with). Assumes nothing.
 use mathlib.Core.Bool.{Bool, cond, _&&_}
 use mathlib.Core.List.{List}
 use mathlib.Core.Option.{Option, none, some}
@@ -15,15 +15,16 @@ use Rattle.model.specs.SheetLayout.{decode}
 use Rattle.model.specs.Faults.{unlessFault}
 use Rattle.model.specs.PlanLayout.{planLength, planBytes}
 
+-- 2 ^ N times P cells are needed (01, Working)
 unfoldable pub cellsNeeded : Sheet → ℕ
 cellsNeeded S = 2 ^ S .tasks * S .points
 
--- a plan, where there is one; where 17 does not apply there is
+-- the plan, if there is one. Where 17 does not apply there is (`has-plan`), so this refusal is never met
 abbrev pub orNoOrder : Option Plan → Answer Plan
 orNoOrder none = refused 17
 orNoOrder (some x) = accepted x
 
--- the plan for the sheet b, with room for so many cells and so many bytes
+-- the plan for the sheet b, with room for so many cells and so many bytes: the sheet's own numbers, 20, 21, else the cheapest (01, Numbers a call can answer with)
 unfoldable pub planFor : List ℕ → ℕ → ℕ → Answer Plan
 planFor b cells room =
     unlessFault b
@@ -31,11 +32,12 @@ planFor b cells room =
     (refuseIf (ltb room (planLength (decode b .tasks))) 21
     (orNoOrder (cheapest (decode b)))))
 
--- cell K times P plus p, which held x, afterwards: the cost to go from p, if K is a list that the pairs allow
+-- cell i, which held x, afterwards. Cell K times P plus p holds the cost to go from p, if K is a list that the pairs allow (01, Working)
 unfoldable pub cellAfter : Sheet → ℕ → ℕ → ℕ
 cellAfter S i x =
     cond (ltb (i / S .points) (2 ^ S .tasks) && pairsAllow S (i / S .points)) (costToGo S (i / S .points) (i % S .points)) x
 
+-- every cell afterwards
 unfoldable pub cellsAfter : Sheet → List ℕ → List ℕ
 cellsAfter S cells = mapBelow (length cells) (λ i. cellAfter S i (getD cells i 0))
 
@@ -45,6 +47,7 @@ pub record Planned : Type 0 where
   pub cells : List ℕ
   pub bytes : List ℕ
 
+-- a refusal leaves both as they were; a plan is written to the front of the buffer (01, Layout of a plan)
 abbrev pub carriedOut : Sheet → Answer Plan → List ℕ → List ℕ → Planned
 carriedOut S (refused n) cells buffer = record { answer = refused n; cells = cells; bytes = buffer }
 carriedOut S (accepted x) cells buffer = record {
@@ -53,5 +56,6 @@ carriedOut S (accepted x) cells buffer = record {
   bytes = overwrite (planBytes (S .tasks) (x .start) (x .doors) (planCost S x)) buffer;
 }
 
+-- planning, from the sheet's bytes, the cells as lent and the buffer as lent
 unfoldable pub plan : List ℕ → List ℕ → List ℕ → Planned
 plan b cells buffer = carriedOut (decode b) (planFor b (length cells) (length buffer)) cells buffer

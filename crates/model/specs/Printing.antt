@@ -1,4 +1,4 @@
--- The output of the print program, from the bytes of a sheet (document 01, "Sheet A and its neighbours"). Assumes nothing.
+-- The output of the print program, from the bytes of a sheet (01, Sheet A and its neighbours). Assumes nothing.
 use mathlib.Core.Bool.{Bool, true, false}
 use mathlib.Core.List.{List, [], _∷_, _++_, map}
 use Prim.Native.Nat.{ℕ, zero, suc, _+_, _/_, _%_}
@@ -26,6 +26,7 @@ abbrev pub decimalBy : ℕ → ℕ → List ℕ
 decimalBy zero n = (48 + n) ∷ []
 decimalBy (suc k) n = elim (ltb n 10) [ true ↦ (48 + n) ∷ [] | false ↦ decimalBy k (n / 10) ++ ((48 + n % 10) ∷ []) ]
 
+-- a number in decimal
 unfoldable pub decimal : ℕ → List ℕ
 decimal n = decimalBy n n
 
@@ -35,6 +36,7 @@ lineEnd = 10 ∷ []
 
 -- ---- lines
 
+-- `refused` and the number
 unfoldable pub refusalLine : ℕ → List ℕ
 refusalLine n = ascii "refused " ++ decimal n ++ lineEnd
 
@@ -42,13 +44,16 @@ refusalLine n = ascii "refused " ++ decimal n ++ lineEnd
 unfoldable pub stepLine : ℕ → ℕ → ℕ → List ℕ
 stepLine door task K = ascii "door " ++ decimal door ++ ascii " task " ++ decimal task ++ ascii " open " ++ decimal K ++ lineEnd
 
+-- a line for each step
 abbrev pub stepLines : Sheet → List ℕ → List ℕ
 stepLines S [] = []
 stepLines S (d ∷ ds) = stepLine d (S .task d) (maskOf (map (S .task) (d ∷ ds))) ++ stepLines S ds
 
+-- the cost, the start's number and the steps
 unfoldable pub planLines : Sheet → Plan → List ℕ
 planLines S x = ascii "cost " ++ decimal (planCost S x) ++ lineEnd ++ ascii "start " ++ decimal (x .start) ++ lineEnd ++ stepLines S (x .doors)
 
+-- one line for a refusal, or else those of the plan
 abbrev pub answerLines : Sheet → Answer Plan → List ℕ
 answerLines S (refused n) = refusalLine n
 answerLines S (accepted x) = planLines S x
@@ -62,6 +67,7 @@ printInput = 9639
 abbrev pub printCells : ℕ
 printCells = 4096
 
+-- what is printed for the sheet b, and for what stands on standard input
 unfoldable pub printedFor : List ℕ → List ℕ
 printedFor b = answerLines (decode b) (planFor b printCells (planLength maxTasks))
 

@@ -1,5 +1,5 @@
 -- What a task sheet says: how many entries each body has, and the fields of an entry by its number, from 0 in sheet order
--- (document 01, "Layout of a task sheet"). Nothing of bytes; a field beyond its count means nothing. Assumes nothing.
+-- (01, Layout of a task sheet). Nothing of bytes; a field beyond its count means nothing. Assumes nothing.
 use Prim.Native.Nat.{ℕ}
 use lib.IntN.{ℤ}
 

@@ -1,5 +1,5 @@
--- The layout of a task sheet of kind 1 (document 01, "Layout of a task sheet"), and what its bytes say. Bodies, contents
--- lines, fields and entries are counted from 0 here, so body i is number i + 1 in the sheet. Assumes nothing.
+-- The layout of a task sheet of kind 1, and what its bytes say (01, Layout of a task sheet, which every definition here is from).
+-- Bodies, contents lines, fields and entries are counted from 0 here, so body i is number i + 1 in the sheet. Assumes nothing.
 use mathlib.Core.List.{List, [], _∷_}
 use Prim.Native.Nat.{ℕ, zero, suc, _+_, _*_}
 use lib.ListN.{length, getD, take}
@@ -9,6 +9,7 @@ use Rattle.model.specs.Bytes.{numberAt, signed}
 
 -- ---- the table
 
+-- bytes 0 and 1 hold the kind
 abbrev pub sheetKind : ℕ
 sheetKind = 1
 

@@ -1,4 +1,4 @@
--- Validating a plan: the judge of document 01, 30 to 34. Assumes nothing.
+-- Validating a plan: the judge of document 01, with 30 to 34 (01, Numbers a call can answer with). Assumes nothing.
 use mathlib.Core.Bool.{Bool, not, _||_}
 use mathlib.Core.List.{List, map}
 use Prim.Native.Nat.{ℕ}
@@ -20,7 +20,7 @@ notInSheet S s ds = leb (S .starts) s || not (inSheet S ds)
 unfoldable pub doneTwice : Sheet → List ℕ → Bool
 doneTwice S ts = anyBelow (S .tasks) (λ t. ltb 1 (countOf t ts))
 
--- start, doors and cost, held against what the sheet says
+-- 31 to 34, then the cost: start, doors and cost held against what the sheet says
 unfoldable pub judged : Sheet → ℕ → List ℕ → ℕ → Answer ℕ
 judged S s ds c =
     refuseIf (notInSheet S s ds) 31
@@ -29,7 +29,7 @@ judged S s ds c =
     (refuseIf (not (eqb c (roundCost S s ds))) 34
     (accepted c))))
 
--- the plan q for the sheet b: accepted with its cost
+-- the plan q for the sheet b: the sheet's own numbers, 30 to 34, else the cost
 unfoldable pub validate : List ℕ → List ℕ → Answer ℕ
 validate b q =
     unlessFault b
