@@ -1,27 +1,26 @@
 -- No sum is above its limit: each step costs at most so much, and each access rule is charged at most once in a plan. Assumes nothing.
-use mathlib.Core.Path.{_≡_, refl, sym, ap, _∙_}
-use mathlib.Core.Logic.{_≢_, ⊎-elim}
+use mathlib.Core.Path.{_≡_, sym, ap, _∙_}
+use mathlib.Core.Logic.{⊎-elim}
 use mathlib.Core.Bool.{true, false, cond, _&&_}
 use mathlib.Core.List.{List, [], _∷_, map}
-use Prim.Native.Nat.{ℕ, suc, _+_, _-_, _*_, _^_, _≤_, _<_}
-use native.Mathlib.Nat.{lt-of-le-of-lt, le-trans, le-refl, mul-add, mul-le-mul, mul-le-mul-left, mul-le-mul-right, zero-add}
+use Prim.Native.Nat.{ℕ, _+_, _-_, _*_, _^_, _≤_, _<_}
+use native.Mathlib.Nat.{lt-of-le-of-lt, le-trans, le-refl, mul-add, mul-le-mul, mul-le-mul-left, mul-le-mul-right}
 use native.Mathlib.Omega.{arith}
-use native.Mathlib.Numerals.{one-add}
 use lib.Dec.{eqb, ltb, leb, lit<}
 use lib.IntN.{natAbs}
 use lib.ListN.{length, length-map}
 use lib.Pow.{areBytes}
-use borrow.Author.Tests.{eqb-true, eq-eqb, ne-eqb, ltb-true, ltb-false}
-use Rattle.model.specs.Walk.{sumBelow, listsBelow, allIn, least, countOf}
-use Rattle.model.specs.TaskList.{bit, full, size, maskOf}
+use borrow.Author.Tests.{eqb-true, eq-eqb}
+use Rattle.model.specs.Walk.{sumBelow, listsBelow, least, countOf}
+use Rattle.model.specs.TaskList.{full, size, maskOf}
 use Rattle.model.specs.Sheet.{Sheet}
 use Rattle.model.specs.Orders.{isOrder, isAdmissible, isOrderWithin}
 use Rattle.model.specs.Cost.{load, ruleCharge, charges, stepCost, cost}
 use Rattle.model.specs.Plans.{inSheet, isSolution, roundCost, isCompletion, completions, costToGo}
 use Rattle.model.specs.SheetLayout.{maxTasks, maxRules, decode}
-use Rattle.model.proofs.Tests.{tested, and-left, and-right, all-at}
-use Rattle.model.proofs.Walks.{sum-cong, sum-none, sum-more, sum-le, sum-mono, sum-add}
-use Rattle.model.proofs.Masks.{bit-lt, size-is, size-le}
+use Rattle.model.proofs.Tests.{tested, and-left, and-right}
+use Rattle.model.proofs.Walks.{sum-cong, sum-le, sum-mono, sum-add}
+use Rattle.model.proofs.Masks.{size-le}
 use Rattle.model.proofs.Lists.{All, all-kept}
 use Rattle.model.proofs.Counting.{order-length, order-once}
 use Rattle.model.proofs.Limits.{CountsWithin, counts-within}

@@ -1,26 +1,25 @@
 -- Driving as a process, from every point with every list open: completions by their first door, and Bellman's equation for a sheet. Assumes nothing.
-use mathlib.Core.Path.{_≡_, refl, sym, ap, ap₂, _∙_, subst, fun-ext}
-use mathlib.Core.Logic.{_≢_, _⊎_, inl, inr, ⊎-elim}
+use mathlib.Core.Path.{_≡_, refl, sym, ap, ap₂, _∙_}
+use mathlib.Core.Logic.{⊎-elim}
 use mathlib.Core.Bool.{Bool, true, false, cond, _&&_}
-use mathlib.Core.List.{List, [], _∷_, _++_, map}
-use mathlib.Core.Option.{Option, none, some}
-use Prim.Native.Nat.{ℕ, zero, suc, _+_, _^_, _≤_, _<_}
+use mathlib.Core.List.{List, [], _∷_, map}
+use Prim.Native.Nat.{ℕ, suc, _+_, _^_, _<_}
 use native.Mathlib.Nat.{zero-add}
 use native.Mathlib.Omega.{arith}
-use lib.Dec.{eqb, ltb}
-use borrow.Author.Tests.{eqb-true, eq-eqb, ltb-true, lt-ltb}
-use Rattle.model.specs.Walk.{flatMapBelow, listsBelow, allIn, keepIf, firstLeast, least}
+use lib.Dec.{ltb}
+use borrow.Author.Tests.{eqb-true, eq-eqb, ltb-true}
+use Rattle.model.specs.Walk.{flatMapBelow, listsBelow, allIn, firstLeast, least}
 use Rattle.model.specs.TaskList.{without, size, maskOf}
 use Rattle.model.specs.Sheet.{Sheet}
 use Rattle.model.specs.Orders.{isOrderWithin, canComeFirst}
 use Rattle.model.specs.Cost.{stepCost, cost}
 use Rattle.model.specs.Plans.{inSheet, isCompletion, completions, costToGo, cheapestCompletion}
-use Rattle.model.proofs.Tests.{tested, same-test, and-left, and-right}
+use Rattle.model.proofs.Tests.{tested, same-test, and-right}
 use Rattle.model.proofs.Walks.{keep-cong, flat-cong}
 use Rattle.model.proofs.Masks.{size-none, size-without, without-le}
 use Rattle.model.proofs.Lists.{All, all-kept, all-imply}
 use Rattle.model.proofs.Choices.{first-shift}
-use Rattle.model.proofs.Process.{Process, completes, runs, runsFrom, runs-end, runs-by-first, runCost, toGo, bestRun, through, ablesBelow, FirstStep}
+use Rattle.model.proofs.Process.{Process, completes, runs, runs-end, runs-by-first, runCost, toGo, bestRun}
 use Rattle.model.proofs.Ranges.{InRange}
 use Rattle.model.proofs.FirstTask.{within-cons, first-bit, nil-size, size-nil, mask-is}
 

@@ -1,22 +1,20 @@
 -- The three demands of the mission, as three theorems over the predicates of specs/: `demand-1`, `demand-2` and `demand-3`. Assumes nothing.
 -- An answer is `accepted` or `refused`. Every definition is a total function of any bytes and any numbers, so every call ends and leans on no check made by its caller.
-use mathlib.Core.Path.{_≡_, refl, sym, ap, ap₂, _∙_, subst}
+use mathlib.Core.Path.{_≡_, refl, sym, ap, ap₂, _∙_}
 use mathlib.Core.Logic.{_⊎_, inl, inr, ⊎-elim, _↔_}
 use mathlib.Core.Bool.{Bool, true, false}
 use mathlib.Core.List.{List}
 use mathlib.Core.Option.{some}
 use Prim.Native.Nat.{ℕ, _+_, _*_, _^_, _≤_, _<_}
-use native.Mathlib.Omega.{arith}
 use native.Mathlib.Nat.{lt-of-lt-of-le}
 use lib.Arith.{digits-lt}
 use lib.Dec.{lit≤}
 use lib.ListN.{length, getD, take, drop}
 use lib.Pow.{areBytes}
-use Rattle.model.specs.Sheet.{Sheet}
 use Rattle.model.specs.Orders.{isAdmissible, noOrder, pairsAllow}
 use Rattle.model.specs.Cost.{cost}
 use Rattle.model.specs.Plans.{Plan, isSolution, roundCost, planCost, cheapest, isCompletion, costToGo}
-use Rattle.model.specs.Answer.{Answer, refused, accepted, refuseIf}
+use Rattle.model.specs.Answer.{refused, accepted, refuseIf}
 use Rattle.model.specs.SheetLayout.{maxTasks, decode}
 use Rattle.model.specs.Faults.{Counts, readSheet}
 use Rattle.model.specs.PlanLayout.{planLength, planBytes, doorArray, PlanRead, writePlan, readPlan}

@@ -1,30 +1,26 @@
--- Finishing a round of a sheet that can be planned: Bellman's equation, the first door of the cheapest completion, and the first start of the cheapest plan. Assumes nothing.
-use mathlib.Core.Path.{_≡_, refl, sym, ap, ap₂, _∙_, subst, subst₂, fun-ext}
-use mathlib.Core.Logic.{_≢_, _⊎_, inl, inr, ⊎-elim}
-use mathlib.Core.Bool.{Bool, true, false, cond, not, _&&_, _||_, true≢false}
-use mathlib.Core.List.{List, [], _∷_, _++_, map, List·Memᴰ, List·Memᴰ·not-nil}
-use mathlib.Core.Option.{Option, none, some, Option·map, Option·getD, Option·none-ne-some}
-use Prim.Native.Nat.{ℕ, zero, suc, _+_, _^_, _≤_, _<_}
-use native.Mathlib.Nat.{zero-add}
+-- Finishing a round of a sheet that can be planned, from every point with every list open: Bellman's equation, and the first door of the cheapest completion. Assumes nothing.
+use mathlib.Core.Path.{_≡_, sym, ap, ap₂, _∙_, subst, subst₂, fun-ext}
+use mathlib.Core.Bool.{true, false, cond}
+use mathlib.Core.List.{List, [], _∷_, map, List·Memᴰ, List·Memᴰ·not-nil}
+use mathlib.Core.Option.{some}
+use Prim.Native.Nat.{ℕ, suc, _+_, _^_, _≤_, _<_}
 use native.Mathlib.Omega.{arith}
-use lib.Dec.{eqb, ltb}
-use borrow.Author.Tests.{eqb-true, eqb-false, eq-eqb, lt-ltb, not-true}
-use Rattle.model.specs.Walk.{allBelow, flatMapBelow, listsBelow, keepIf, firstLeast, least}
-use Rattle.model.specs.TaskList.{bit, member, without, full, size}
+use borrow.Author.Tests.{lt-ltb}
+use Rattle.model.specs.Walk.{flatMapBelow, least}
+use Rattle.model.specs.TaskList.{without, full, size}
 use Rattle.model.specs.Sheet.{Sheet}
-use Rattle.model.specs.Orders.{pairWithin, isAdmissible, noOrder, essential, pairsAllow, isFree, canComeFirst, isOrderWithin}
+use Rattle.model.specs.Orders.{noOrder, canComeFirst}
 use Rattle.model.specs.Cost.{stepCost, cost}
-use Rattle.model.specs.Plans.{Plan, inSheet, isSolution, roundCost, planCost, plans, solutions, cheapest, isCompletion, completions, costToGo, cheapestCompletion}
-use Rattle.model.proofs.Tests.{tested, not-both, and-left, and-right, and-both, all-at, all-below}
-use Rattle.model.proofs.Walks.{keep-flat, keep-map, keep-cong, flat-cong, cons-not-nil}
-use Rattle.model.proofs.Masks.{bit-none, member-bit, bit-member, without-same, without-other, without-le, size-zero, size-full, full-lt, full-bit}
-use Rattle.model.proofs.Lists.{All, all-flat}
-use Rattle.model.proofs.Choices.{first-some, first-map, first-flat, first-shift, costOf, least-is}
-use Rattle.model.proofs.Process.{FirstOf, Scanned, scan, ablesBelow, runs, toGo, bestRun, through, bellman, FirstStep, first-step}
+use Rattle.model.specs.Plans.{isCompletion, completions, costToGo, cheapestCompletion}
+use Rattle.model.proofs.Tests.{and-both}
+use Rattle.model.proofs.Masks.{without-le, full-bit}
+use Rattle.model.proofs.Process.{runs, toGo, through, bellman, FirstStep, first-step}
 use Rattle.model.proofs.Ranges.{InRange, Served}
-use Rattle.model.proofs.Completions.{Position, driving, completions-are, to-go-is, cheapest-is}
+use Rattle.model.proofs.Completions.{Position, driving, completes-is, completions-are, open-is, to-go-is, cheapest-is}
 use Rattle.model.proofs.Existence.{part, part-within, admissible-is, order-driven}
 use Rattle.model.proofs.Enumerations.{has-order, completion-listed}
+use Rattle.model.proofs.Cheapest.{to-go-attained}
+use Rattle.model.proofs.Bounds.{Limits, sumLimit, WithinLimits, cost-bound}
 
 -- what 14, 15 and 17 leave of a sheet
 pub record Plannable (S : Sheet) : Type 0 where
@@ -39,39 +35,6 @@ throughDoor S K p d = stepCost S K p d + costToGo S (without K (S .task d)) (S .
 -- the doors whose task can come first in K
 unfoldable pub firstDoors : Sheet → ℕ → List ℕ
 firstDoors S K = flatMapBelow (S .doors) (λ d. cond (canComeFirst S K (S .task d)) (d ∷ []) [])
-
--- a task that can come first in a list that the pairs allow leaves a list that they allow
-pub allow-without : (S : Sheet) (K t : ℕ) → pairsAllow S K ≡ true → canComeFirst S K t ≡ true → pairsAllow S (without K t) ≡ true
-unfolding pairsAllow essential canComeFirst isFree pairWithin
-allow-without S K t a e = close (all-below (S .pairs) _ (λ i l. one i
-    (all-at (S .pairs) (λ i. not (member K (S .sender i)) || member K (S .receiver i)) closed i l)
-    (all-at (S .pairs) (λ i. not (member K (S .sender i) && member K (S .receiver i) && eqb t (S .receiver i))) (and-right (member K t) _ e) i l)
-    (member (without K t) (S .sender i)) refl))
-  where
-    -- K is not empty, so it is essential
-    closed : allBelow (S .pairs) (λ i. not (member K (S .sender i)) || member K (S .receiver i)) ≡ true
-    closed = go (eqb K 0) refl a
-      where
-        go : (b : Bool) → eqb K 0 ≡ b → (b || (not b && allBelow (S .pairs) (λ i. not (member K (S .sender i)) || member K (S .receiver i)))) ≡ true
-            → allBelow (S .pairs) (λ i. not (member K (S .sender i)) || member K (S .receiver i)) ≡ true
-        go true z h = absurd (omega (arith, bit-none t, ap (λ (x : ℕ). bit x t) (eqb-true K 0 z), member-bit K t (and-left (member K t) _ e)))
-        go false z h = h
-
-    one : (i : ℕ) → (not (member K (S .sender i)) || member K (S .receiver i)) ≡ true
-        → not (member K (S .sender i) && member K (S .receiver i) && eqb t (S .receiver i)) ≡ true
-        → (b : Bool) → member (without K t) (S .sender i) ≡ b → (not b || member (without K t) (S .receiver i)) ≡ true
-    one i u v false eb = refl
-    one i u v true eb =
-        let ns : S .sender i ≢ t = λ q. not-both eb (ap (λ (x : ℕ). eqb x 1) (ap (bit (without K t)) q ∙ without-same K t)) in
-        let hs : member K (S .sender i) ≡ true = sym (ap (λ (x : ℕ). eqb x 1) (without-other K t (S .sender i) ns)) ∙ eb in
-        let hr : member K (S .receiver i) ≡ true = rw hs at u in
-        let vr : eqb t (S .receiver i) ≡ false = not-true _ (rw (hs, hr) at v) in
-        ap (λ (x : ℕ). eqb x 1) (without-other K t (S .receiver i) (λ q. eqb-false t (S .receiver i) vr (sym q))) ∙ hr
-
-    close : allBelow (S .pairs) (λ i. not (member (without K t) (S .sender i)) || member (without K t) (S .receiver i)) ≡ true
-        → (eqb (without K t) 0 || (not (eqb (without K t) 0) && allBelow (S .pairs) (λ i. not (member (without K t) (S .sender i)) || member (without K t) (S .receiver i)))) ≡ true
-    close h = elim (eqb (without K t) 0) as (λ b. (b || (not b && allBelow (S .pairs) (λ i. not (member (without K t) (S .sender i)) || member (without K t) (S .receiver i)))) ≡ true)
-        [ true ↦ refl | false ↦ h ]
 
 module _ (S : Sheet) (G : Plannable S) where
   -- every list has a completion
@@ -138,17 +101,15 @@ module _ (S : Sheet) (G : Plannable S) where
             goes-on = cheapest-is S (G .ranges) (without K (S .task (f .choice))) (S .depart (f .choice)) (omega (arith, without-le K (S .task (f .choice)))) ∙ f .goes-on;
           }
 
-  -- ---- the whole round: the cheapest plan has the first start of least cost to go, and the cheapest completion from there
+    -- what a door costs with the cost to go from where it leads is the cost of a completion
+    pub through-attained : (d : ℕ) → d < S .doors → canComeFirst S K (S .task d) ≡ true → (ds : List ℕ) × (isCompletion S K ds ≡ true) × (cost S p ds ≡ throughDoor S K p d)
+    unfolding throughDoor
+    through-attained d l e =
+        let r = to-go-attained S (without K (S .task d)) (S .depart d) (some-completion (without K (S .task d))) in
+        let c : isCompletion S K (d ∷ r .0) ≡ true = sym (completes-is S (G .ranges) (d ∷ r .0) K p)
+        ∙ and-both (and-both (lt-ltb d (S .doors) l) e) (completes-is S (G .ranges) (r .0) (without K (S .task d)) (S .depart d) ∙ r .1) in
+        (d ∷ r .0, c, ap₂ (λ (m v : ℕ). stepCost S m p d + v) (open-is S (G .ranges) (d ∷ r .0) K below c) (r .2))
 
-  -- a solution from a start of the sheet is a completion of the full list
-  pub solution-completes : (s : ℕ) (ds : List ℕ) → s < S .starts → isSolution S s ds ≡ isCompletion S (full (S .tasks)) ds
-  unfolding isSolution isCompletion
-  solution-completes s ds l = rw (lt-ltb s (S .starts) l, admissible-is S (G .ranges) (map (S .task) ds))
-
-  pub solutions-by-start : solutions S ≡ flatMapBelow (S .starts) (λ s. map (λ (ds : List ℕ). record { start = s; doors = ds }) (completions S (full (S .tasks))))
-  unfolding solutions plans completions
-  solutions-by-start = keep-flat _ (S .starts) _ ∙ flat-cong (S .starts) _ _ (λ s l.
-      keep-map _ (λ (ds : List ℕ). record { start = s; doors = ds }) (listsBelow (S .doors) (S .tasks))
-      ∙ ap (map (λ (ds : List ℕ). record { start = s; doors = ds }))
-      (keep-cong _ (isCompletion S (full (S .tasks))) (λ ds. solution-completes s ds l) (listsBelow (S .doors) (S .tasks))
-      ∙ ap (λ (n : ℕ). keepIf (isCompletion S (full (S .tasks))) (listsBelow (S .doors) n)) (sym (size-full (S .tasks)))))
+    -- so it is within the limits of a sum
+    pub through-bound : (L : Limits) → WithinLimits L S → (d : ℕ) → d < S .doors → canComeFirst S K (S .task d) ≡ true → throughDoor S K p d ≤ sumLimit L
+    through-bound L W d l e = let a = through-attained d l e in subst (λ (v : ℕ). v ≤ sumLimit L) (a .2) (cost-bound L S W K p (a .0) (a .1))

@@ -1,26 +1,23 @@
 -- The enumerations hold exactly what the predicates say, each once and in rank order. Assumes nothing.
-use mathlib.Core.Path.{_≡_, refl, sym, ap, _∙_, subst}
+use mathlib.Core.Path.{_≡_, refl, sym, _∙_, subst}
 use mathlib.Core.Logic.{_↔_, inl, inr, ⊎-elim}
 use mathlib.Core.Bool.{Bool, true, false, _&&_, true≢false}
-use mathlib.Core.List.{List, [], _∷_, map, List·Memᴰ, List·Memᴰ·head, List·Memᴰ·not-nil, List·Memᴰ·cases-cons, Memᴰ·map}
-use Prim.Native.Nat.{ℕ, suc, _^_, _≤_, _<_}
-use native.Mathlib.Nat.{zero-add}
-use native.Mathlib.Numerals.{one-add}
-use native.Mathlib.Omega.{arith}
-use lib.Dec.{eqb, ltb}
+use mathlib.Core.List.{List, [], _∷_, map, List·Memᴰ, List·Memᴰ·head, List·Memᴰ·not-nil, Memᴰ·map}
+use Prim.Native.Nat.{ℕ}
+use lib.Dec.{ltb}
 use lib.ListN.{length, length-map}
-use borrow.Author.Tests.{eqb-true, eq-eqb, ne-eqb, ltb-true, ltb-false}
-use Rattle.model.specs.Walk.{sumBelow, allIn, keepIf, isEmpty, countOf, listsBelow}
-use Rattle.model.specs.TaskList.{bit, full, size}
+use borrow.Author.Tests.{ltb-true}
+use Rattle.model.specs.Walk.{allIn, keepIf, isEmpty, listsBelow}
+use Rattle.model.specs.TaskList.{full, size}
 use Rattle.model.specs.Sheet.{Sheet}
 use Rattle.model.specs.Orders.{isOrder, isAdmissible, isOrderWithin, admissibleOrders, ordersWithin, noOrder}
 use Rattle.model.specs.Plans.{Plan, inSheet, isSolution, plans, solutions, isCompletion, completions}
-use Rattle.model.proofs.Tests.{tested, and-left, and-right, and-both, all-at, all-below}
-use Rattle.model.proofs.Walks.{sum-cong, sum-none, sum-more, empty-nil}
-use Rattle.model.proofs.Masks.{bit-above, size-is, size-full}
-use Rattle.model.proofs.Lists.{all-kept, all-member, member-all, in-all, mem-flat, mem-keep, lists-member}
+use Rattle.model.proofs.Tests.{tested, and-left, and-right}
+use Rattle.model.proofs.Walks.{empty-nil}
+use Rattle.model.proofs.Masks.{size-full}
+use Rattle.model.proofs.Lists.{all-kept, all-member, mem-flat, mem-keep, lists-member}
 use Rattle.model.proofs.Counting.{order-in, order-length}
-use Rattle.model.proofs.Ranks.{Ranked, ranked-flat, ranked-keep, ranked-map, before-map, DoorsBefore, RanksBefore, lists-ranked}
+use Rattle.model.proofs.Ranks.{Ranked, ranked-flat, ranked-keep, ranked-map, before-map, DoorsBefore, RanksBefore, doors-irreflexive, ranks-irreflexive, lists-ranked, Enumerates, enumerates}
 
 -- ---- what passes a test, from all lists of k numbers below n
 
@@ -137,3 +134,17 @@ solution-listed S s ds h =
 pub listed-solution : (S : Sheet) (x : Plan) → List·Memᴰ x (solutions S) → isSolution S (x .start) (x .doors) ≡ true
 unfolding solutions
 listed-solution S = listed-passes (λ x. isSolution S (x .start) (x .doors)) (plans S)
+
+-- ---- each of them once, nothing else, in rank order
+
+pub solutions-enumerated : (S : Sheet) → Enumerates RanksBefore (λ x. isSolution S (x .start) (x .doors) ≡ true) (solutions S)
+solutions-enumerated S = enumerates RanksBefore ranks-irreflexive _ (solutions S) (λ x. solution-listed S (x .start) (x .doors)) (listed-solution S) (solutions-ranked S)
+
+pub completions-enumerated : (S : Sheet) (K : ℕ) → Enumerates DoorsBefore (λ ds. isCompletion S K ds ≡ true) (completions S K)
+completions-enumerated S K = enumerates DoorsBefore doors-irreflexive _ (completions S K) (completion-listed S K) (listed-completion S K) (completions-ranked S K)
+
+pub orders-enumerated : (S : Sheet) (K : ℕ) → Enumerates DoorsBefore (λ ts. isOrderWithin S K ts ≡ true) (ordersWithin S K)
+orders-enumerated S K = enumerates DoorsBefore doors-irreflexive _ (ordersWithin S K) (order-listed S K) (listed-order S K) (orders-ranked S K)
+
+pub admissible-enumerated : (S : Sheet) → Enumerates DoorsBefore (λ ts. isAdmissible S ts ≡ true) (admissibleOrders S)
+admissible-enumerated S = enumerates DoorsBefore doors-irreflexive _ (admissibleOrders S) (admissible-listed S) (listed-admissible S) (admissible-ranked S)

@@ -1,20 +1,19 @@
 -- The part of an order that lies in a smaller list is an order of that list; so where some order of the tasks keeps every pair, every list has a completion. Assumes nothing.
-use mathlib.Core.Path.{_≡_, refl, sym, ap, ap₂, _∙_, subst}
-use mathlib.Core.Logic.{_≢_, _⊎_, inl, inr, ⊎-elim}
+use mathlib.Core.Path.{_≡_, refl, sym, ap, ap₂, _∙_}
+use mathlib.Core.Logic.{⊎-elim}
 use mathlib.Core.Bool.{Bool, true, false, cond, not, _&&_, _||_}
 use mathlib.Core.List.{List, [], _∷_, map}
-use Prim.Native.Nat.{ℕ, zero, suc, _+_, _*_, _^_, _≤_, _<_}
+use Prim.Native.Nat.{ℕ, suc, _+_, _*_, _<_}
 use native.Mathlib.Omega.{arith}
 use lib.Dec.{eqb, ltb}
-use borrow.Author.Tests.{eqb-true, eqb-false, eq-eqb, ltb-true, lt-ltb}
+use borrow.Author.Tests.{eqb-true, eq-eqb, ltb-true, lt-ltb}
 use Rattle.model.specs.Walk.{allBelow, allIn, keepIf, countOf, indexOf}
 use Rattle.model.specs.TaskList.{bit, member, full}
 use Rattle.model.specs.Sheet.{Sheet}
 use Rattle.model.specs.Orders.{isOrder, keepsPair, keepsEveryPair, pairWithin, keepsPairsWithin, isAdmissible, isOrderWithin}
 use Rattle.model.specs.Plans.{inSheet, isCompletion}
-use Rattle.model.proofs.Tests.{tested, not-both, and-left, and-right, and-both, all-at, all-below, all-cong}
-use Rattle.model.proofs.Masks.{bit-cases, bit-member, member-bit, not-member-bit, full-bit}
-use Rattle.model.proofs.Lists.{All, all-in}
+use Rattle.model.proofs.Tests.{not-both, and-left, and-right, and-both, all-at, all-below, all-cong}
+use Rattle.model.proofs.Masks.{bit-cases, member-bit, not-member-bit, full-bit}
 use Rattle.model.proofs.Ranges.{InRange, Served}
 
 -- ---- the part of an order that lies in K

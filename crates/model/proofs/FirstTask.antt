@@ -1,21 +1,21 @@
 -- The orders of a list by their first task: a task that can come first, and then an order of the rest. Assumes nothing.
-use mathlib.Core.Path.{_≡_, refl, sym, ap, ap₂, _∙_, subst}
-use mathlib.Core.Logic.{_≢_, _⊎_, inl, inr, ⊎-elim}
+use mathlib.Core.Path.{_≡_, refl, sym, ap, _∙_}
+use mathlib.Core.Logic.{_≢_, ⊎-elim}
 use mathlib.Core.Bool.{Bool, true, false, cond, not, _&&_, _||_, and-true, and-false, or-true, or-false}
-use mathlib.Core.List.{List, [], _∷_, map}
-use Prim.Native.Nat.{ℕ, zero, suc, _+_, _-_, _*_, _^_, _≤_, _<_}
+use mathlib.Core.List.{List, [], _∷_}
+use Prim.Native.Nat.{ℕ, suc, _+_, _^_, _<_}
 use native.Mathlib.Nat.{zero-add}
 use native.Mathlib.Omega.{arith}
 use native.Mathlib.Numerals.{one-add}
 use lib.Dec.{eqb, ltb, leb·suc-suc, eqb·suc-suc}
-use borrow.Author.Tests.{eqb-true, eqb-false, eq-eqb, ne-eqb, ltb-true, lt-ltb, le-ltb}
+use borrow.Author.Tests.{not-true, eqb-true, eqb-false, eq-eqb, ne-eqb, ltb-true, lt-ltb, le-ltb}
 use Rattle.model.specs.Walk.{allBelow, allIn, countOf, indexOf}
 use Rattle.model.specs.TaskList.{bit, member, with, without, size, maskOf}
 use Rattle.model.specs.Sheet.{Sheet}
-use Rattle.model.specs.Orders.{isOrder, keepsPair, pairWithin, keepsPairsWithin, isOrderWithin, isFree, canComeFirst}
-use Rattle.model.proofs.Tests.{tested, same-test, and-left, and-right, and-both, all-at, all-below, all-cong, all-false, all-and}
+use Rattle.model.specs.Orders.{isOrder, keepsPair, pairWithin, keepsPairsWithin, isOrderWithin, essential, pairsAllow, isFree, canComeFirst}
+use Rattle.model.proofs.Tests.{tested, not-both, and-left, and-right, and-both, all-at, all-below, all-cong, all-false, all-and}
 use Rattle.model.proofs.Walks.{sum-none, sum-zero}
-use Rattle.model.proofs.Masks.{bit-lt, bit-none, bit-member, member-bit, without-same, without-other, without-le, with-without, no-bits, size-is, size-zero}
+use Rattle.model.proofs.Masks.{bit-lt, bit-none, member-bit, without-same, without-other, without-le, with-without, size-is, size-zero}
 use Rattle.model.proofs.Ranges.{InRange}
 
 module _ (n K t : ℕ) where
@@ -121,3 +121,38 @@ mask-is S [] K l e = sym (size-zero (S .tasks) K l (nil-size S K e))
 mask-is S (t ∷ ts) K l e =
     let c = within-uncons S K t ts e in
     ap (λ (x : ℕ). with x t) (mask-is S ts (without K t) (omega (arith, without-le K t)) (c .2)) ∙ with-without K t (first-bit S K t (c .1))
+
+-- ---- the lists that the pairs allow
+
+-- a task that can come first in a list that the pairs allow leaves a list that they allow
+pub allow-without : (S : Sheet) (K t : ℕ) → pairsAllow S K ≡ true → canComeFirst S K t ≡ true → pairsAllow S (without K t) ≡ true
+unfolding pairsAllow essential canComeFirst isFree pairWithin
+allow-without S K t a e = close (all-below (S .pairs) _ (λ i l. one i
+    (all-at (S .pairs) (λ i. not (member K (S .sender i)) || member K (S .receiver i)) closed i l)
+    (all-at (S .pairs) (λ i. not (member K (S .sender i) && member K (S .receiver i) && eqb t (S .receiver i))) (and-right (member K t) _ e) i l)
+    (member (without K t) (S .sender i)) refl))
+  where
+    -- K is not empty, so it is essential
+    closed : allBelow (S .pairs) (λ i. not (member K (S .sender i)) || member K (S .receiver i)) ≡ true
+    closed = go (eqb K 0) refl a
+      where
+        go : (b : Bool) → eqb K 0 ≡ b → (b || (not b && allBelow (S .pairs) (λ i. not (member K (S .sender i)) || member K (S .receiver i)))) ≡ true
+            → allBelow (S .pairs) (λ i. not (member K (S .sender i)) || member K (S .receiver i)) ≡ true
+        go true z h = absurd (omega (arith, bit-none t, ap (λ (x : ℕ). bit x t) (eqb-true K 0 z), member-bit K t (and-left (member K t) _ e)))
+        go false z h = h
+
+    one : (i : ℕ) → (not (member K (S .sender i)) || member K (S .receiver i)) ≡ true
+        → not (member K (S .sender i) && member K (S .receiver i) && eqb t (S .receiver i)) ≡ true
+        → (b : Bool) → member (without K t) (S .sender i) ≡ b → (not b || member (without K t) (S .receiver i)) ≡ true
+    one i u v false eb = refl
+    one i u v true eb =
+        let ns : S .sender i ≢ t = λ q. not-both eb (ap (λ (x : ℕ). eqb x 1) (ap (bit (without K t)) q ∙ without-same K t)) in
+        let hs : member K (S .sender i) ≡ true = sym (ap (λ (x : ℕ). eqb x 1) (without-other K t (S .sender i) ns)) ∙ eb in
+        let hr : member K (S .receiver i) ≡ true = rw hs at u in
+        let vr : eqb t (S .receiver i) ≡ false = not-true _ (rw (hs, hr) at v) in
+        ap (λ (x : ℕ). eqb x 1) (without-other K t (S .receiver i) (λ q. eqb-false t (S .receiver i) vr (sym q))) ∙ hr
+
+    close : allBelow (S .pairs) (λ i. not (member (without K t) (S .sender i)) || member (without K t) (S .receiver i)) ≡ true
+        → (eqb (without K t) 0 || (not (eqb (without K t) 0) && allBelow (S .pairs) (λ i. not (member (without K t) (S .sender i)) || member (without K t) (S .receiver i)))) ≡ true
+    close h = elim (eqb (without K t) 0) as (λ b. (b || (not b && allBelow (S .pairs) (λ i. not (member (without K t) (S .sender i)) || member (without K t) (S .receiver i)))) ≡ true)
+        [ true ↦ refl | false ↦ h ]

@@ -1,28 +1,23 @@
 -- Validating accepts exactly the well-formed bytes of a solution with its cost. Assumes nothing.
 use mathlib.Core.Path.{_≡_, refl, sym, ap, _∙_}
-use mathlib.Core.Logic.{⊎-elim, _↔_}
-use mathlib.Core.Bool.{Bool, true, false, not, _&&_}
+use mathlib.Core.Logic.{_↔_}
+use mathlib.Core.Bool.{Bool, true, false, not}
 use mathlib.Core.List.{List, [], _∷_, map}
-use Prim.Native.Nat.{ℕ, zero, suc, _^_, _≤_, _<_}
-use native.Mathlib.Nat.{zero-add, mul-one}
-use native.Mathlib.Numerals.{one-add}
-use native.Mathlib.Omega.{arith}
+use Prim.Native.Nat.{ℕ, _^_, _≤_, _<_}
 use lib.Dec.{eqb, ltb, leb, lit≤}
-use lib.ListN.{length, getD, length-map}
+use lib.ListN.{length, length-map}
 use lib.Pow.{areBytes}
-use borrow.Author.Tests.{eqb-true, eq-eqb, ne-eqb, ltb-true, ltb-false, lt-ltb, le-ltb, lt-leb, leb-false, not-false}
-use Rattle.model.specs.Walk.{sumBelow, allIn, countOf}
-use Rattle.model.specs.TaskList.{bit, full}
+use borrow.Author.Tests.{eqb-true, eq-eqb, ltb-true, ltb-false, lt-ltb, le-ltb, lt-leb, leb-false, not-false}
+use Rattle.model.specs.Walk.{allIn, countOf}
+use Rattle.model.specs.TaskList.{full}
 use Rattle.model.specs.Sheet.{Sheet}
-use Rattle.model.specs.Orders.{isOrder, keepsEveryPair, isAdmissible}
+use Rattle.model.specs.Orders.{keepsEveryPair}
 use Rattle.model.specs.Plans.{inSheet, isSolution, roundCost}
 use Rattle.model.specs.Answer.{Answer, refused, accepted, refuseIf}
 use Rattle.model.specs.SheetLayout.{decode}
 use Rattle.model.specs.PlanLayout.{planBytes, illFormed, startIn, doorsIn, costIn}
 use Rattle.model.specs.Validating.{notInSheet, doneTwice, judged, validate}
-use Rattle.model.proofs.Tests.{and-left, and-right, and-both, or-left, or-right, or-neither, eq-or-lt, all-at, all-below, none-at, none-below}
-use Rattle.model.proofs.Walks.{sum-none, sum-more, sum-cong, sum-le}
-use Rattle.model.proofs.Masks.{full-bit, size-is, size-full}
+use Rattle.model.proofs.Tests.{and-left, and-right, and-both, or-left, or-right, or-neither, none-at, none-below}
 use Rattle.model.proofs.Counting.{order-of-all, order-once}
 use Rattle.model.proofs.Solutions.{Solution, solution, is-solution, solution-length, solution-fits}
 use Rattle.model.proofs.Limits.{CountsWithin, counts-within}

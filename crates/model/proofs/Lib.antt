@@ -20,6 +20,7 @@ pub mod Loads
 pub mod Widths
 pub mod Bounds
 pub mod Driving
+pub mod Starts
 pub mod PlanBytes
 pub mod Solutions
 pub mod Judging

@@ -1,15 +1,14 @@
 -- The numbers of entries of a sheet that 12 does not refuse. Assumes nothing.
-use mathlib.Core.Path.{_≡_, refl, sym, ap, _∙_}
-use mathlib.Core.Bool.{Bool, true, false, not}
+use mathlib.Core.Path.{_≡_}
+use mathlib.Core.Bool.{false}
 use mathlib.Core.List.{List}
-use Prim.Native.Nat.{ℕ, _*_, _≤_, _<_}
-use native.Mathlib.Omega.{arith}
+use Prim.Native.Nat.{ℕ, _≤_, _<_}
 use lib.Dec.{lit<}
 use lib.ListN.{getD}
 use borrow.Author.Tests.{not-false}
-use Rattle.model.specs.Walk.{anyBelow, between}
+use Rattle.model.specs.Walk.{anyBelow}
 use Rattle.model.specs.Sheet.{Sheet}
-use Rattle.model.specs.SheetLayout.{maxTasks, maxDoors, maxStarts, maxPairs, maxRules, maxPoints, tasksBody, doorsBody, startsBody, pairsBody, rulesBody, pointsBody, distancesBody, bodies, fewest, most, entries, decode}
+use Rattle.model.specs.SheetLayout.{maxTasks, maxDoors, maxStarts, maxPairs, maxRules, maxPoints, tasksBody, doorsBody, startsBody, pairsBody, rulesBody, pointsBody, bodies, fewest, most, entries, decode}
 use Rattle.model.specs.Faults.{wrongEntries}
 use Rattle.model.proofs.Tests.{none-at, between-true}
 

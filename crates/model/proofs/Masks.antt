@@ -1,16 +1,14 @@
 -- Masks as sets: what is in a list after a task is joined or struck off; equal members, equal lists. Assumes nothing.
-use mathlib.Core.Path.{_≡_, refl, sym, ap, ap₂, _∙_, subst}
+use mathlib.Core.Path.{_≡_, refl, sym, ap, _∙_}
 use mathlib.Core.Logic.{_≢_, _⊎_, inl, inr, ⊎-elim}
-use mathlib.Core.Bool.{Bool, true, false, cond, _&&_}
-use Prim.Native.Nat.{ℕ, zero, suc, _+_, _-_, _*_, _/_, _%_, _^_, _≤_, _<_}
-use native.Mathlib.Nat.{div-one, div-div-eq-div-mul, pow-succ', mod-lt, zero-lt-suc, zero-div, div-eq-of-lt}
+use mathlib.Core.Bool.{true, false, cond}
+use Prim.Native.Nat.{ℕ, zero, suc, _+_, _-_, _/_, _%_, _^_, _≤_, _<_}
+use native.Mathlib.Nat.{div-one, div-div-eq-div-mul, pow-succ', mod-lt, zero-lt-suc, zero-div}
 use native.Mathlib.Omega.{arith}
-use lib.Dec.{eqb}
 use lib.Pow.{pow-pos, pow-mono}
-use borrow.Author.Tests.{eqb-true, eqb-false, eq-eqb, ne-eqb}
+use borrow.Author.Tests.{eqb-true, eqb-false, eq-eqb}
 use Rattle.model.specs.Walk.{sumBelow, countBelow}
 use Rattle.model.specs.TaskList.{bit, member, with, without, full, size}
-use Rattle.model.proofs.Tests.{tested}
 use Rattle.model.proofs.Walks.{sum-cong, sum-none, sum-more, sum-zero, sum-le}
 
 -- ---- bits

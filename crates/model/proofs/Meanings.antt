@@ -3,14 +3,14 @@ use mathlib.Core.Path.{_≡_, refl, sym, ap, _∙_}
 use mathlib.Core.Logic.{_≢_, _↔_, ⊎-elim}
 use mathlib.Core.Bool.{Bool, true, false, not, _&&_, _||_, false≢true}
 use mathlib.Core.List.{List, [], _∷_, map, List·Memᴰ, List·Memᴰ·head, List·Memᴰ·tail, List·Memᴰ·not-nil, List·Memᴰ·cases-cons}
-use Prim.Native.Nat.{ℕ, suc, _^_, _≤_, _<_}
+use Prim.Native.Nat.{ℕ, _^_, _<_}
 use native.Mathlib.Omega.{arith}
 use lib.Dec.{eqb, ltb}
 use borrow.Author.Tests.{eqb-true, eqb-false, ne-eqb, ltb-true, lt-ltb, not-true}
-use Rattle.model.specs.Walk.{allBelow, allIn, countOf, indexOf}
+use Rattle.model.specs.Walk.{allBelow, countOf, indexOf}
 use Rattle.model.specs.TaskList.{bit, member, with, full, maskOf}
 use Rattle.model.specs.Sheet.{Sheet}
-use Rattle.model.specs.Orders.{isOrder, keepsPair, keepsEveryPair, isAdmissible, essential, pairWithin, keepsPairsWithin, isOrderWithin}
+use Rattle.model.specs.Orders.{isOrder, keepsPair, keepsEveryPair, essential, pairWithin, keepsPairsWithin, isOrderWithin}
 use Rattle.model.specs.Plans.{inSheet, isSolution, isCompletion}
 use Rattle.model.proofs.Tests.{tested, and-left, and-right, and-both, all-at, all-below}
 use Rattle.model.proofs.Masks.{bit-none, member-bit, bit-member, with-same, with-other, full-lt}

@@ -3,19 +3,19 @@ use mathlib.Core.Path.{_≡_, refl, sym, ap, _∙_, subst}
 use mathlib.Core.Logic.{_⊎_, inl, inr, ⊎-elim}
 use mathlib.Core.Bool.{Bool, true, false, cond, not}
 use mathlib.Core.List.{List, [], _∷_, _++_, append-assoc, append-nil}
-use Prim.Native.Nat.{ℕ, zero, suc, _+_, _*_, _^_, _≤_, _<_}
+use Prim.Native.Nat.{ℕ, _+_, _*_, _^_, _≤_, _<_}
 use native.Mathlib.Omega.{arith}
 use lib.Dec.{eqb, ltb}
 use lib.ListN.{length, getD, take, drop, length-append, drop-of-length-le}
 use lib.Pow.{areBytes}
 use lib.Seq.{length-take-le, take-at, take-all, getD-take, ext-getD}
 use borrow.Author.Tests.{ltb-true, eqb-true, eq-eqb, lt-ltb, le-ltb, not-false}
-use Rattle.model.specs.Walk.{flatMapBelow, mapBelow}
+use Rattle.model.specs.Walk.{mapBelow}
 use Rattle.model.specs.Bytes.{numberAt, bytesOf, overwrite}
 use Rattle.model.specs.Answer.{Answer, refused, accepted, refuseIf}
 use Rattle.model.specs.SheetLayout.{maxTasks, lineAt}
 use Rattle.model.specs.PlanLayout.{planStartAt, planDoorsAt, planCostAt, planLength, lineBytes, planHead, planBytes, wrongTasks, writeAnswer, bytesWritten, writePlan, illFormed, startIn, doorIn, doorsIn, costIn, doorArray, PlanRead, readPlan}
-use Rattle.model.proofs.Tests.{tested, or-left, or-right, eq-or-lt, same-list, list-same, between-true, between-is}
+use Rattle.model.proofs.Tests.{tested, or-left, or-right, same-list, list-same, between-true, between-is}
 use Rattle.model.proofs.Walks.{flat-cong}
 use Rattle.model.proofs.Reading.{refused≢accepted, refused-number, accepted-value, passed}
 use Rattle.model.proofs.Walks.{length-mapBelow, mapBelow-at}

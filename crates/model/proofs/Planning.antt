@@ -1,10 +1,10 @@
 -- What planning answers and what it leaves in the cells and in the buffer. Assumes nothing.
-use mathlib.Core.Path.{_≡_, refl, sym, ap, ap₂, _∙_, subst}
+use mathlib.Core.Path.{_≡_, sym, ap, _∙_}
 use mathlib.Core.Logic.{_⊎_, inl, inr, ⊎-elim}
-use mathlib.Core.Bool.{Bool, true, false, cond, _&&_, and-false}
+use mathlib.Core.Bool.{Bool, true, false}
 use mathlib.Core.List.{List}
 use mathlib.Core.Option.{Option, none, some}
-use Prim.Native.Nat.{ℕ, _+_, _*_, _/_, _%_, _^_, _≤_, _<_}
+use Prim.Native.Nat.{ℕ, _+_, _*_, _/_, _^_, _≤_, _<_}
 use native.Mathlib.Nat.{le-div-iff-mul-le}
 use native.Mathlib.Omega.{arith}
 use lib.Arith.{digits-div, digits-mod}
@@ -13,20 +13,20 @@ use lib.ListN.{length, getD, List·getD-eq-default}
 use borrow.Author.Tests.{ltb-true, ltb-false, lt-ltb, le-ltb}
 use Rattle.model.specs.Sheet.{Sheet}
 use Rattle.model.specs.Orders.{noOrder, pairsAllow}
-use Rattle.model.specs.Plans.{Plan, planCost, cheapest, costToGo}
+use Rattle.model.specs.Plans.{Plan, cheapest, costToGo}
 use Rattle.model.specs.Answer.{Answer, refused, accepted, refuseIf}
 use Rattle.model.specs.SheetLayout.{decode}
 use Rattle.model.specs.PlanLayout.{planLength}
-use Rattle.model.specs.Faults.{unlessFault}
-use Rattle.model.specs.Planning.{cellsNeeded, orNoOrder, planFor, cellAfter, cellsAfter, carriedOut, Planned, plan}
+use Rattle.model.specs.Planning.{cellsNeeded, orNoOrder, planFor, cellAfter, cellsAfter, carriedOut, plan}
 use Rattle.model.specs.TaskList.{full}
 use Rattle.model.proofs.Tests.{tested}
 use Rattle.model.proofs.Walks.{length-mapBelow, mapBelow-at}
-use Rattle.model.proofs.Reading.{refused≢accepted, refused-number, Reads, Passes, passes-then, reads-then, accepted-reads, refused-reads}
+use Rattle.model.proofs.Reading.{refused≢accepted, refused-number, Reads, Passes, passes-then, refused-reads}
 use Rattle.model.proofs.Limits.{counts-within}
 use Rattle.model.proofs.Ranges.{in-range, served}
 use Rattle.model.proofs.Cheapest.{cheapest-some}
-use Rattle.model.proofs.Driving.{Plannable, has-completion, solution-completes}
+use Rattle.model.proofs.Driving.{Plannable, has-completion}
+use Rattle.model.proofs.Starts.{solution-completes}
 
 -- ---- cells
 

@@ -1,9 +1,9 @@
 -- A process that is run to its end: its completions by their first choice, Bellman's equation, and the first completion of least cost. Assumes nothing.
 use mathlib.Core.Path.{_≡_, refl, sym, ap, ap₂, _∙_, subst}
-use mathlib.Core.Logic.{_≢_, _⊎_, inl, inr, ⊎-elim}
-use mathlib.Core.Bool.{Bool, true, false, cond, _&&_, true≢false}
-use mathlib.Core.List.{List, [], _∷_, _++_, map, append-nil}
-use mathlib.Core.Option.{Option, none, some, Option·map, Option·none-ne-some, Option·some-injective}
+use mathlib.Core.Logic.{⊎-elim}
+use mathlib.Core.Bool.{Bool, true, false, cond, _&&_}
+use mathlib.Core.List.{List, [], _∷_, map, append-nil}
+use mathlib.Core.Option.{Option, none, some, Option·map, Option·none-ne-some}
 use Prim.Native.Nat.{ℕ, zero, suc, _+_, _≤_, _<_}
 use native.Mathlib.Nat.{zero-add}
 use native.Mathlib.Omega.{arith}
@@ -12,8 +12,8 @@ use borrow.Author.Tests.{eq-eqb, ltb-true, ltb-false, lt-ltb}
 use Rattle.model.specs.Walk.{flatMapBelow, listsBelow, keepIf, cheaper, firstLeast, least}
 use Rattle.model.proofs.Tests.{tested, eq-or-lt, not-both}
 use Rattle.model.proofs.Walks.{flat-cong, keep-flat, keep-cong, keep-none, keep-map}
-use Rattle.model.proofs.Lists.{All, AllSome, all-flat, all-kept, all-imply, all-some}
-use Rattle.model.proofs.Choices.{all-first, first-append, first-map, first-shift, first-flat, first-some, ables, costOf, least-is}
+use Rattle.model.proofs.Lists.{All, all-flat}
+use Rattle.model.proofs.Choices.{first-append, first-map, first-shift, first-flat, first-some, costOf, least-is}
 
 -- ---- the first of least cost among the numbers below n that pass a test
 

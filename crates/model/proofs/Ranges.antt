@@ -1,10 +1,10 @@
 -- What 14 and 15 rule out: every number that a sheet names is in the sheet, and every task has a door. Assumes nothing.
-use mathlib.Core.Path.{_≡_, refl, sym, ap, _∙_}
-use mathlib.Core.Bool.{Bool, true, false, not, _&&_, _||_}
-use Prim.Native.Nat.{ℕ, suc, _^_, _≤_, _<_}
-use lib.Dec.{eqb, ltb, leb}
+use mathlib.Core.Path.{_≡_}
+use mathlib.Core.Bool.{false, not, _||_}
+use Prim.Native.Nat.{ℕ, _^_, _≤_, _<_}
+use lib.Dec.{eqb, leb}
 use borrow.Author.Tests.{eqb-true, leb-false, not-false}
-use Rattle.model.specs.Walk.{allBelow, anyBelow, between}
+use Rattle.model.specs.Walk.{anyBelow}
 use Rattle.model.specs.Sheet.{Sheet}
 use Rattle.model.specs.SheetLayout.{maxTasks}
 use Rattle.model.specs.Faults.{badDoor, badStart, badPair, badRule, outOfRange, lacksDoor}

@@ -2,7 +2,7 @@
 use mathlib.Core.Path.{_≡_, refl, ap}
 use mathlib.Core.Logic.{_⊎_, inl, inr}
 use mathlib.Core.Bool.{Bool, true, false, cond}
-use mathlib.Core.List.{List, [], _∷_, _++_, map}
+use mathlib.Core.List.{List, [], _∷_, _++_, map, List·Memᴰ}
 use Prim.Native.Nat.{ℕ, zero, suc, _<_}
 use native.Mathlib.Omega.{arith}
 use lib.ListN.{length, take, getD}
@@ -56,6 +56,22 @@ module _ {A : Type 0} (R : A → A → Type 0) where
   -- no element stands twice
   pub once : ((x : A) → R x x → ⊥) → (xs : List A) (d : A) → Ranked xs → (i j : ℕ) → i < j → j < length xs → getD xs i d ≡ getD xs j d → ⊥
   once irreflexive xs d h i j l m e = irreflexive (getD xs j d) (rw e at (ranked-at xs d h i j l m))
+
+-- a list that enumerates what P holds of: each of them once, nothing else, in the order R
+pub record Enumerates {A : Type 0} (R : A → A → Type 0) (P : A → Type 0) (xs : List A) : Type 0 where
+  pub each : (x : A) → P x → List·Memᴰ x xs
+  pub nothing-else : (x : A) → List·Memᴰ x xs → P x
+  pub not-twice : (d : A) (i j : ℕ) → i < j → j < length xs → getD xs i d ≡ getD xs j d → ⊥
+  pub in-order : Ranked R xs
+
+pub enumerates : {A : Type 0} (R : A → A → Type 0) → ((x : A) → R x x → ⊥) → (P : A → Type 0) (xs : List A)
+    → ((x : A) → P x → List·Memᴰ x xs) → ((x : A) → List·Memᴰ x xs → P x) → Ranked R xs → Enumerates R P xs
+enumerates R strict P xs each only ranked = record {
+  each = each;
+  nothing-else = only;
+  not-twice = λ d. once R strict xs d ranked;
+  in-order = ranked;
+}
 
 -- a map that takes the one order to the other
 pub ranked-map : {A B : Type 0} (Q : A → A → Type 0) (R : B → B → Type 0) (f : A → B) → ((x y : A) → Q x y → R (f x) (f y)) → (xs : List A) → Ranked Q xs → Ranked R (map f xs)

@@ -1,9 +1,9 @@
 -- Which faults a sheet passes, from what a call answers. Assumes nothing.
 use mathlib.Core.Path.{_≡_, refl, sym, ap, _∙_}
-use mathlib.Core.Bool.{Bool, true, false, cond, not, _&&_, _||_}
+use mathlib.Core.Bool.{Bool, true, false, _||_}
 use mathlib.Core.List.{List}
 use mathlib.Core.Logic.{_⊎_, inl, inr, ⊎-elim}
-use Prim.Native.Nat.{ℕ, suc, _≤_, _<_}
+use Prim.Native.Nat.{ℕ, _≤_}
 use native.Mathlib.Omega.{arith}
 use lib.Dec.{lit≤}
 use Rattle.model.specs.Walk.{anyBelow}
@@ -11,7 +11,6 @@ use Rattle.model.specs.Orders.{noOrder}
 use Rattle.model.specs.Answer.{Answer, refused, accepted, refuseIf}
 use Rattle.model.specs.SheetLayout.{bodies, decode}
 use Rattle.model.specs.Faults.{Counts, tooShort, wrongKind, wrongEntries, wrongLine, wrongLength, outOfRange, lacksDoor, loadBelowZero, unlessFault, readSheet}
-use Rattle.model.proofs.Tests.{tested}
 
 -- ---- answers
 

@@ -1,14 +1,14 @@
 -- Laws of the walks over numbers and lists. Assumes nothing.
-use mathlib.Core.Path.{_≡_, refl, sym, ap, ap₂, _∙_, subst}
-use mathlib.Core.Logic.{_≢_, _⊎_, inl, inr, ⊎-elim}
-use mathlib.Core.Bool.{Bool, true, false, cond, _&&_}
-use mathlib.Core.List.{List, [], _∷_, _++_, map, append-assoc, append-nil, append-eq-nil-iff}
-use Prim.Native.Nat.{ℕ, zero, suc, _+_, _*_, _≤_, _<_, min}
+use mathlib.Core.Path.{_≡_, refl, ap, ap₂, _∙_, subst}
+use mathlib.Core.Logic.{_≢_, ⊎-elim}
+use mathlib.Core.Bool.{Bool, true, false, cond}
+use mathlib.Core.List.{List, [], _∷_, _++_, map, append-eq-nil-iff}
+use Prim.Native.Nat.{ℕ, zero, suc, _+_, _*_, _≤_, _<_}
 use native.Mathlib.Omega.{arith}
 use lib.ListN.{length, getD, length-append, List·getD-append}
 use lib.Seq.{getD-at}
-use Rattle.model.specs.Walk.{sumBelow, flatMapBelow, mapBelow, keepIf, listsBelow, isEmpty}
-use Rattle.model.proofs.Tests.{tested, eq-or-lt}
+use Rattle.model.specs.Walk.{sumBelow, flatMapBelow, mapBelow, keepIf, isEmpty}
+use Rattle.model.proofs.Tests.{eq-or-lt}
 
 -- ---- sums
 

@@ -2,18 +2,16 @@
 use mathlib.Core.Path.{_≡_}
 use mathlib.Core.Logic.{⊎-elim}
 use mathlib.Core.Bool.{true, false}
-use mathlib.Core.List.{List, [], _∷_}
-use Prim.Native.Nat.{ℕ, zero, suc, _*_, _^_, _≤_, _<_}
-use native.Mathlib.Nat.{pow-suc}
+use mathlib.Core.List.{List}
+use Prim.Native.Nat.{ℕ, _*_, _^_, _≤_, _<_}
 use native.Mathlib.Omega.{arith}
-use lib.Dec.{ltb, lit<}
-use lib.ListN.{getD}
+use lib.Dec.{ltb}
 use lib.Pow.{areBytes}
 use borrow.Author.Tests.{ltb-true, ltb-false}
 use Rattle.model.specs.Sheet.{Sheet}
-use Rattle.model.specs.Bytes.{numberAt, signed}
+use Rattle.model.specs.Bytes.{signed}
 use Rattle.model.specs.SheetLayout.{tasksBody, doorsBody, startsBody, pairsBody, rulesBody, pointsBody, distancesBody, fieldWidths, fieldWidth, field, decode}
-use Rattle.model.proofs.Tests.{tested, and-left, and-right}
+use Rattle.model.proofs.Tests.{tested}
 use Rattle.model.proofs.Numbers.{number-lt}
 use Rattle.model.proofs.Loads.{up, down}
 

@@ -1,15 +1,14 @@
 -- Sheet A and its neighbours: the starred lines, by one computed check on the definitions (01, Sheet A and its neighbours). Assumes nothing.
-use mathlib.Core.Bool.{Bool, true, false, _&&_}
+use mathlib.Core.Bool.{Bool, false, _&&_}
 use mathlib.Core.List.{List, [], _∷_, _++_}
 use Prim.Native.Nat.{ℕ, _+_, _*_}
-use lib.Dec.{T, eqb}
+use lib.Dec.{eqb}
 use lib.ListN.{length}
 use Rattle.model.specs.Walk.{sameList}
 use Rattle.model.specs.Plans.{roundCost}
 use Rattle.model.specs.Answer.{Answer, refused, accepted}
 use Rattle.model.specs.SheetLayout.{decode}
 use Rattle.model.specs.Faults.{Counts, readSheet}
-use Rattle.model.specs.PlanLayout.{planBytes}
 use Rattle.model.specs.Validating.{validate}
 use Rattle.model.specs.Planning.{Planned, plan}
 use Rattle.model.specs.Printing.{ascii, printed}

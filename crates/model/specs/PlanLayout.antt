@@ -1,7 +1,7 @@
 -- The layout of a plan: writing one and reading one (01, Layout of a plan, which every definition here is from). Assumes nothing.
 use mathlib.Core.Bool.{Bool, cond, not, _||_}
-use mathlib.Core.List.{List, [], _∷_, _++_}
-use Prim.Native.Nat.{ℕ, suc, _+_, _*_}
+use mathlib.Core.List.{List, _++_}
+use Prim.Native.Nat.{ℕ, _+_, _*_}
 use lib.Dec.{eqb, ltb}
 use lib.ListN.{length, getD, take}
 use Rattle.model.specs.Walk.{flatMapBelow, mapBelow, sameList, between}

@@ -1,5 +1,5 @@
 -- Planning: the answer, every cell and every byte afterwards (01, Working and Numbers a call can answer with). Assumes nothing.
-use mathlib.Core.Bool.{Bool, cond, _&&_}
+use mathlib.Core.Bool.{cond, _&&_}
 use mathlib.Core.List.{List}
 use mathlib.Core.Option.{Option, none, some}
 use Prim.Native.Nat.{ℕ, _*_, _/_, _%_, _^_}

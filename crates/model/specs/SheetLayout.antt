@@ -2,7 +2,7 @@
 -- Bodies, contents lines, fields and entries are counted from 0 here, so body i is number i + 1 in the sheet. Assumes nothing.
 use mathlib.Core.List.{List, [], _∷_}
 use Prim.Native.Nat.{ℕ, zero, suc, _+_, _*_}
-use lib.ListN.{length, getD, take}
+use lib.ListN.{length, getD}
 use Rattle.model.specs.Walk.{sumBelow}
 use Rattle.model.specs.Sheet.{Sheet}
 use Rattle.model.specs.Bytes.{numberAt, signed}
