@@ -15,8 +15,8 @@ use Rattle.model.specs.Cost.{loadBelow, load, ruleCharge, charges, stepC
 use Rattle.model.specs.Plans.{inSheet, isSolution, roundCost, planCost, plans, solutions, cheapest, isCompletion, completions, costToGo}
 use Rattle.model.proofs.Tests.{and-left, and-right, all-cong}
 use Rattle.model.proofs.Walks.{sum-cong, keep-cong}
-use Rattle.model.proofs.Lists.{All, all-kept, all-imply, all-in}
-use Rattle.model.proofs.Choices.{first-shift}
+use Rattle.model.proofs.Lists.{All, all-kept, all-imply, all-in, map-cong}
+use Rattle.model.proofs.Choices.{first-cong}
 use Rattle.model.proofs.Ranges.{InRange}
 
 -- ---- congruences
@@ -29,13 +29,6 @@ and-cong false b c h = refl
 module _ {A : Type 0} where
   kept-cong : (p q : A → Bool) (xs ys : List A) → ((x : A) → p x ≡ q x) → xs ≡ ys → keepIf p xs ≡ keepIf q ys
   kept-cong p q xs ys h e = keep-cong p q h xs ∙ ap (keepIf q) e
-
-  map-cong : {B : Type 0} (f g : A → B) (xs : List A) → All (λ x. f x ≡ g x) xs → map f xs ≡ map g xs
-  map-cong f g [] h = refl
-  map-cong f g (x ∷ xs) h = ap₂ (λ y ys. y ∷ ys) (h .0) (map-cong f g xs (h .1))
-
-  first-cong : (f g : A → ℕ) (xs : List A) → All (λ x. f x ≡ g x) xs → firstLeast f xs ≡ firstLeast g xs
-  first-cong f g xs h = first-shift f g 0 xs (all-imply _ _ (λ x e. omega arith) xs h)
 
 -- ---- agreement
 

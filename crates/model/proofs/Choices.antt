@@ -10,7 +10,7 @@ use lib.Dec.{ltb}
 use borrow.Author.Tests.{ltb-true, ltb-false, lt-ltb, le-ltb}
 use Rattle.model.specs.Walk.{flatMapBelow, cheaper, firstLeast, least}
 use Rattle.model.proofs.Tests.{tested}
-use Rattle.model.proofs.Lists.{All, AllSome}
+use Rattle.model.proofs.Lists.{All, AllSome, all-imply}
 
 module _ {A : Type 0} (f : A → ℕ) where
   cheaper-none : (x : Option A) → cheaper f x none ≡ x
@@ -101,20 +101,25 @@ module _ {A : Type 0} (f h : A → ℕ) (c : ℕ) where
   first-shift (x ∷ xs) k =
       ap (cheaper f (some x)) (first-shift xs (k .1)) ∙ cheaper-shift x (firstLeast h xs) (k .0) (all-first (λ y. f y ≡ c + h y) h xs (k .1))
 
+-- costs that are equal at each element have the same first of least cost
+pub first-cong : {A : Type 0} (f g : A → ℕ) (xs : List A) → All (λ x. f x ≡ g x) xs → firstLeast f xs ≡ firstLeast g xs
+first-cong f g xs h = first-shift f g 0 xs (all-imply _ _ (λ x e. omega arith) xs h)
+
+-- the numbers below n that pass the test, in their order
+abbrev pub passingBelow : ℕ → (ℕ → Bool) → List ℕ
+passingBelow n test = flatMapBelow n (λ i. cond (test i) (i ∷ []) [])
+
 -- where each part g i with able i has choice i for its first of least cost, and the other parts are empty
 module _ {A : Type 0} (f : A → ℕ) (g : ℕ → List A) (able : ℕ → Bool) (choice : ℕ → A) where
-  abbrev pub ables : ℕ → List ℕ
-  ables i = cond (able i) (i ∷ []) []
-
   one-part : (i : ℕ) → (able i ≡ true → firstLeast f (g i) ≡ some (choice i)) → (able i ≡ false → g i ≡ [])
-      → firstLeast f (g i) ≡ Option·map choice (firstLeast (λ i. f (choice i)) (ables i))
+      → firstLeast f (g i) ≡ Option·map choice (firstLeast (λ i. f (choice i)) (cond (able i) (i ∷ []) []))
   one-part i has lacks = ⊎-elim (λ (w : able i ≡ true). rw w (has w)) (λ (w : able i ≡ false). rw w (ap (firstLeast f) (lacks w))) (tested (able i))
 
   pub first-flat : (n : ℕ) → ((i : ℕ) → i < n → able i ≡ true → firstLeast f (g i) ≡ some (choice i)) → ((i : ℕ) → i < n → able i ≡ false → g i ≡ [])
-      → firstLeast f (flatMapBelow n g) ≡ Option·map choice (firstLeast (λ i. f (choice i)) (flatMapBelow n ables))
+      → firstLeast f (flatMapBelow n g) ≡ Option·map choice (firstLeast (λ i. f (choice i)) (passingBelow n able))
   first-flat zero has lacks = refl
   first-flat (suc n) has lacks =
       first-append f (flatMapBelow n g) (g n)
       ∙ ap₂ (cheaper f) (first-flat n (λ i l. has i (omega arith)) (λ i l. lacks i (omega arith))) (one-part n (has n (omega arith)) (lacks n (omega arith)))
-      ∙ cheaper-map f choice (firstLeast (λ i. f (choice i)) (flatMapBelow n ables)) (firstLeast (λ i. f (choice i)) (ables n))
-      ∙ ap (Option·map choice) (sym (first-append (λ i. f (choice i)) (flatMapBelow n ables) (ables n)))
+      ∙ cheaper-map f choice (firstLeast (λ i. f (choice i)) (passingBelow n able)) (firstLeast (λ i. f (choice i)) (cond (able n) (n ∷ []) []))
+      ∙ ap (Option·map choice) (sym (first-append (λ i. f (choice i)) (passingBelow n able) (cond (able n) (n ∷ []) [])))

@@ -1,10 +1,9 @@
 -- Driving as a process, from every point with every list open: completions by their first door, and Bellman's equation for a sheet. Assumes nothing.
 use mathlib.Core.Path.{_≡_, refl, sym, ap, ap₂, _∙_}
 use mathlib.Core.Logic.{⊎-elim}
-use mathlib.Core.Bool.{Bool, true, false, cond, _&&_}
+use mathlib.Core.Bool.{true, false, cond, _&&_}
 use mathlib.Core.List.{List, [], _∷_, map}
 use Prim.Native.Nat.{ℕ, suc, _+_, _^_, _<_}
-use native.Mathlib.Nat.{zero-add}
 use native.Mathlib.Omega.{arith}
 use lib.Dec.{ltb}
 use borrow.Author.Tests.{eqb-true, eq-eqb, ltb-true}
@@ -14,11 +13,11 @@ use Rattle.model.specs.Sheet.{Sheet}
 use Rattle.model.specs.Orders.{isOrderWithin, canComeFirst}
 use Rattle.model.specs.Cost.{stepCost, cost}
 use Rattle.model.specs.Plans.{inSheet, isCompletion, completions, costToGo, cheapestCompletion}
-use Rattle.model.proofs.Tests.{tested, same-test, and-right}
+use Rattle.model.proofs.Tests.{tested, same-test, and-left-comm, and-right}
 use Rattle.model.proofs.Walks.{keep-cong, flat-cong}
 use Rattle.model.proofs.Masks.{size-none, size-without, without-le}
-use Rattle.model.proofs.Lists.{All, all-kept, all-imply}
-use Rattle.model.proofs.Choices.{first-shift}
+use Rattle.model.proofs.Lists.{All, all-kept, map-cong}
+use Rattle.model.proofs.Choices.{first-cong}
 use Rattle.model.proofs.Process.{Process, completes, runs, runs-end, runs-by-first, runCost, toGo, bestRun}
 use Rattle.model.proofs.Ranges.{InRange}
 use Rattle.model.proofs.FirstTask.{within-cons, first-bit, nil-size, size-nil, mask-is}
@@ -48,15 +47,10 @@ module _ (S : Sheet) (R : InRange S) where
   completes-is (d ∷ ds) K p = ⊎-elim
       (λ (w : ltb d (S .doors) ≡ true). rw w
       (ap (λ b. canComeFirst S K (S .task d) && b) (completes-is ds (without K (S .task d)) (S .depart d))
-      ∙ swap (canComeFirst S K (S .task d)) (allIn (λ d. ltb d (S .doors)) ds) (isOrderWithin S (without K (S .task d)) (map (S .task) ds))
+      ∙ and-left-comm (canComeFirst S K (S .task d)) (allIn (λ d. ltb d (S .doors)) ds) (isOrderWithin S (without K (S .task d)) (map (S .task) ds))
       ∙ ap (λ b. allIn (λ d. ltb d (S .doors)) ds && b) (sym (within-cons S K (S .task d) (map (S .task) ds) (R .task d (ltb-true d (S .doors) w))))))
       (λ (w : ltb d (S .doors) ≡ false). rw w)
       (tested (ltb d (S .doors)))
-    where
-      swap : (a b c : Bool) → (a && (b && c)) ≡ (b && (a && c))
-      swap true b c = refl
-      swap false true c = refl
-      swap false false c = refl
 
   pub completions-are : (K p : ℕ) → completions S K ≡ runs driving (record { list = K; point = p })
   unfolding completions
@@ -94,17 +88,12 @@ module _ (S : Sheet) (R : InRange S) where
 
   pub to-go-is : (K p : ℕ) → K < 2 ^ S .tasks → costToGo S K p ≡ toGo driving (record { list = K; point = p })
   unfolding costToGo toGo
-  to-go-is K p l = ap least (same (completions S K) (costs-are K p l)) ∙ ap (λ xs. least (map (runCost driving (record { list = K; point = p })) xs)) (completions-are K p)
-    where
-      same : (xs : List (List ℕ)) → All (λ ds. cost S p ds ≡ runCost driving (record { list = K; point = p }) ds) xs
-          → map (cost S p) xs ≡ map (runCost driving (record { list = K; point = p })) xs
-      same [] h = refl
-      same (x ∷ xs) h = ap₂ (λ (v : ℕ) (vs : List ℕ). v ∷ vs) (h .0) (same xs (h .1))
+  to-go-is K p l = ap least (map-cong (cost S p) (runCost driving (record { list = K; point = p })) (completions S K) (costs-are K p l))
+      ∙ ap (λ xs. least (map (runCost driving (record { list = K; point = p })) xs)) (completions-are K p)
 
   pub cheapest-is : (K p : ℕ) → K < 2 ^ S .tasks → cheapestCompletion S K p ≡ bestRun driving (record { list = K; point = p })
   unfolding cheapestCompletion bestRun
-  cheapest-is K p l = first-shift (cost S p) (runCost driving (record { list = K; point = p })) 0 (completions S K)
-      (all-imply _ _ (λ ds h. h ∙ sym (zero-add _)) (completions S K) (costs-are K p l))
+  cheapest-is K p l = first-cong (cost S p) (runCost driving (record { list = K; point = p })) (completions S K) (costs-are K p l)
       ∙ ap (firstLeast (runCost driving (record { list = K; point = p }))) (completions-are K p)
 
   -- with nothing open the end cost is left

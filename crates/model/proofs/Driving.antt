@@ -1,12 +1,12 @@
 -- Finishing a round of a sheet that can be planned, from every point with every list open: Bellman's equation, and the first door of the cheapest completion. Assumes nothing.
 use mathlib.Core.Path.{_≡_, sym, ap, ap₂, _∙_, subst, subst₂, fun-ext}
-use mathlib.Core.Bool.{true, false, cond}
+use mathlib.Core.Bool.{true, false}
 use mathlib.Core.List.{List, [], _∷_, map, List·Memᴰ, List·Memᴰ·not-nil}
 use mathlib.Core.Option.{some}
 use Prim.Native.Nat.{ℕ, suc, _+_, _^_, _≤_, _<_}
 use native.Mathlib.Omega.{arith}
 use borrow.Author.Tests.{lt-ltb}
-use Rattle.model.specs.Walk.{flatMapBelow, least}
+use Rattle.model.specs.Walk.{least}
 use Rattle.model.specs.TaskList.{without, full, size}
 use Rattle.model.specs.Sheet.{Sheet}
 use Rattle.model.specs.Orders.{noOrder, canComeFirst}
@@ -14,6 +14,7 @@ use Rattle.model.specs.Cost.{stepCost, cost}
 use Rattle.model.specs.Plans.{isCompletion, completions, costToGo, cheapestCompletion}
 use Rattle.model.proofs.Tests.{and-both}
 use Rattle.model.proofs.Masks.{without-le, full-bit}
+use Rattle.model.proofs.Choices.{passingBelow}
 use Rattle.model.proofs.Process.{runs, toGo, through, bellman, FirstStep, first-step}
 use Rattle.model.proofs.Ranges.{InRange, Served}
 use Rattle.model.proofs.Completions.{Position, driving, completes-is, completions-are, open-is, to-go-is, cheapest-is}
@@ -34,7 +35,7 @@ throughDoor S K p d = stepCost S K p d + costToGo S (without K (S .task d)) (S .
 
 -- the doors whose task can come first in K
 unfoldable pub firstDoors : Sheet → ℕ → List ℕ
-firstDoors S K = flatMapBelow (S .doors) (λ d. cond (canComeFirst S K (S .task d)) (d ∷ []) [])
+firstDoors S K = passingBelow (S .doors) (λ d. canComeFirst S K (S .task d))
 
 module _ (S : Sheet) (G : Plannable S) where
   -- every list has a completion

@@ -13,7 +13,7 @@ use Rattle.model.specs.Walk.{allBelow, allIn, countOf, indexOf}
 use Rattle.model.specs.TaskList.{bit, member, with, without, size, maskOf}
 use Rattle.model.specs.Sheet.{Sheet}
 use Rattle.model.specs.Orders.{isOrder, keepsPair, pairWithin, keepsPairsWithin, isOrderWithin, essential, pairsAllow, isFree, canComeFirst}
-use Rattle.model.proofs.Tests.{tested, not-both, and-left, and-right, and-both, all-at, all-below, all-cong, all-false, all-and}
+use Rattle.model.proofs.Tests.{tested, not-both, and-left-comm, and-left, and-right, and-both, all-at, all-below, all-cong, all-false, all-and}
 use Rattle.model.proofs.Walks.{sum-none, sum-zero}
 use Rattle.model.proofs.Masks.{bit-lt, bit-none, member-bit, without-same, without-other, without-le, with-without, size-is, size-zero}
 use Rattle.model.proofs.Ranges.{InRange}
@@ -75,14 +75,9 @@ module _ (S : Sheet) (K t : ℕ) where
   unfolding isOrderWithin canComeFirst
   within-cons ts l = ⊎-elim
       (λ (w : member K t ≡ true). rw (order-cons (S .tasks) K t ts l, pairs-cons ts (member-bit K t w), w)
-      (swap (isOrder (S .tasks) (without K t) ts) (isFree S K t) (keepsPairsWithin S (without K t) ts)))
+      (and-left-comm (isOrder (S .tasks) (without K t) ts) (isFree S K t) (keepsPairsWithin S (without K t) ts)))
       (λ (w : member K t ≡ false). rw (order-cons (S .tasks) K t ts l, w))
       (tested (member K t))
-    where
-      swap : (a b c : Bool) → (a && (b && c)) ≡ (b && (a && c))
-      swap true b c = refl
-      swap false true c = refl
-      swap false false c = refl
 
 pub first-bit : (S : Sheet) (K t : ℕ) → canComeFirst S K t ≡ true → bit K t ≡ 1
 unfolding canComeFirst

@@ -3,6 +3,7 @@ pub mod Walks
 pub mod Masks
 pub mod Lists
 pub mod Choices
+pub mod Scans
 pub mod Limits
 pub mod Process
 pub mod Ranges

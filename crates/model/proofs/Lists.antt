@@ -1,5 +1,5 @@
 -- Elements of lists: what holds of each, and what is in a list that was gathered, mapped or kept. Assumes nothing.
-use mathlib.Core.Path.{_≡_, refl, sym, ap, _∙_, subst}
+use mathlib.Core.Path.{_≡_, refl, sym, ap, ap₂, _∙_, subst}
 use mathlib.Core.Logic.{⊎-elim}
 use mathlib.Core.Bool.{Bool, true, false, cond}
 use mathlib.Core.List.{List, [], _∷_, _++_, map, List·Memᴰ, List·Memᴰ·head, List·Memᴰ·tail, List·Memᴰ·not-nil, List·Memᴰ·cases-cons, Memᴰ·append-left, Memᴰ·append-right, Memᴰ·map}
@@ -55,9 +55,6 @@ module _ {A : Type 0} (P : A → Type 0) where
   member-all [] h = tt
   member-all (x ∷ xs) h = (h x (List·Memᴰ·head refl), member-all xs (λ y m. h y (List·Memᴰ·tail m)))
 
-  pub all-some : (o : Option A) (x : A) → o ≡ some x → AllSome o → P x
-  all-some o x e h = subst AllSome e h
-
 pub all-imply : {A : Type 0} (P Q : A → Type 0) → ((x : A) → P x → Q x) → (xs : List A) → All P xs → All Q xs
 all-imply P Q f [] h = tt
 all-imply P Q f (x ∷ xs) h = (f x (h .0), all-imply P Q f xs (h .1))
@@ -65,6 +62,10 @@ all-imply P Q f (x ∷ xs) h = (f x (h .0), all-imply P Q f xs (h .1))
 pub all-map : {A B : Type 0} (P : B → Type 0) (f : A → B) (xs : List A) → All (λ x. P (f x)) xs → All P (map f xs)
 all-map P f [] h = tt
 all-map P f (x ∷ xs) h = (h .0, all-map P f xs (h .1))
+
+pub map-cong : {A B : Type 0} (f g : A → B) (xs : List A) → All (λ x. f x ≡ g x) xs → map f xs ≡ map g xs
+map-cong f g [] h = refl
+map-cong f g (x ∷ xs) h = ap₂ (λ y ys. y ∷ ys) (h .0) (map-cong f g xs (h .1))
 
 -- a test of each element
 pub all-in : {A : Type 0} (test : A → Bool) (xs : List A) → allIn test xs ≡ true → All (λ x. test x ≡ true) xs

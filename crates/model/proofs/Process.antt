@@ -1,89 +1,19 @@
 -- A process that is run to its end: its completions by their first choice, Bellman's equation, and the first completion of least cost. Assumes nothing.
-use mathlib.Core.Path.{_≡_, refl, sym, ap, ap₂, _∙_, subst}
+use mathlib.Core.Path.{_≡_, refl, sym, ap, ap₂, _∙_}
 use mathlib.Core.Logic.{⊎-elim}
 use mathlib.Core.Bool.{Bool, true, false, cond, _&&_}
-use mathlib.Core.List.{List, [], _∷_, map, append-nil}
+use mathlib.Core.List.{List, [], _∷_, map}
 use mathlib.Core.Option.{Option, none, some, Option·map, Option·none-ne-some}
-use Prim.Native.Nat.{ℕ, zero, suc, _+_, _≤_, _<_}
-use native.Mathlib.Nat.{zero-add}
+use Prim.Native.Nat.{ℕ, suc, _+_, _≤_, _<_}
 use native.Mathlib.Omega.{arith}
 use lib.Dec.{eqb, ltb}
-use borrow.Author.Tests.{eq-eqb, ltb-true, ltb-false, lt-ltb}
-use Rattle.model.specs.Walk.{flatMapBelow, listsBelow, keepIf, cheaper, firstLeast, least}
-use Rattle.model.proofs.Tests.{tested, eq-or-lt, not-both}
+use borrow.Author.Tests.{eq-eqb, lt-ltb}
+use Rattle.model.specs.Walk.{flatMapBelow, listsBelow, keepIf, firstLeast, least}
+use Rattle.model.proofs.Tests.{tested}
 use Rattle.model.proofs.Walks.{flat-cong, keep-flat, keep-cong, keep-none, keep-map}
 use Rattle.model.proofs.Lists.{All, all-flat}
-use Rattle.model.proofs.Choices.{first-append, first-map, first-shift, first-flat, first-some, costOf, least-is}
-
--- ---- the first of least cost among the numbers below n that pass a test
-
-module _ (f : ℕ → ℕ) (able : ℕ → Bool) where
-  -- those numbers, in their order
-  abbrev pub ablesBelow : ℕ → List ℕ
-  ablesBelow n = flatMapBelow n (λ i. cond (able i) (i ∷ []) [])
-
-  pub record FirstOf (n c : ℕ) : Type 0 where
-    pub below : c < n
-    pub is-able : able c ≡ true
-    pub least-one : (i : ℕ) → i < n → able i ≡ true → f c ≤ f i
-    pub first-one : (i : ℕ) → i < c → able i ≡ true → f c < f i
-
-  abbrev pub Scanned : ℕ → Option ℕ → Type 0
-  Scanned n none = (i : ℕ) → i < n → able i ≡ false
-  Scanned n (some c) = FirstOf n c
-
-  -- one number more: it is not able, or it is compared with the first of least cost so far
-  skip : (n : ℕ) (o : Option ℕ) → able n ≡ false → Scanned n o → Scanned (suc n) o
-  skip n none e h = λ i l. ⊎-elim (λ (w : i ≡ n). ap able w ∙ e) (λ (w : i < n). h i w) (eq-or-lt i n l)
-  skip n (some c) e h = record {
-    below = omega (arith, h .below);
-    is-able = h .is-able;
-    least-one = λ i l a. ⊎-elim (λ (w : i ≡ n). absurd (not-both a (ap able w ∙ e))) (λ (w : i < n). h .least-one i w a) (eq-or-lt i n l);
-    first-one = h .first-one;
-  }
-
-  take-up : (n : ℕ) (o : Option ℕ) → able n ≡ true → Scanned n o → Scanned (suc n) (cheaper f o (some n))
-  take-up n none e h = record {
-    below = omega arith;
-    is-able = e;
-    least-one = λ i l a. ⊎-elim (λ (w : i ≡ n). rw w (omega arith)) (λ (w : i < n). absurd (not-both a (h i w))) (eq-or-lt i n l);
-    first-one = λ i l a. absurd (not-both a (h i l));
-  }
-  take-up n (some c) e h = go (ltb (f n) (f c)) refl
-    where
-      go : (b : Bool) → ltb (f n) (f c) ≡ b → Scanned (suc n) (cond b (some n) (some c))
-      go true w =
-          let m : f n < f c = ltb-true _ _ w in
-          record {
-            below = omega arith;
-            is-able = e;
-            least-one = λ i l a. ⊎-elim (λ (v : i ≡ n). rw v (omega arith)) (λ (v : i < n). omega (arith, h .least-one i v a)) (eq-or-lt i n l);
-            first-one = λ i l a. omega (arith, h .least-one i l a);
-          }
-      go false w =
-          let m : f c ≤ f n = ltb-false _ _ w in
-          record {
-            below = omega (arith, h .below);
-            is-able = h .is-able;
-            least-one = λ i l a. ⊎-elim (λ (v : i ≡ n). rw v m) (λ (v : i < n). h .least-one i v a) (eq-or-lt i n l);
-            first-one = h .first-one;
-          }
-
-  pub scan-skip : (n : ℕ) → able n ≡ false → firstLeast f (ablesBelow (suc n)) ≡ firstLeast f (ablesBelow n)
-  scan-skip n e = rw e (ap (firstLeast f) (append-nil (ablesBelow n)))
-
-  pub scan-take : (n : ℕ) → able n ≡ true → firstLeast f (ablesBelow (suc n)) ≡ cheaper f (firstLeast f (ablesBelow n)) (some n)
-  scan-take n e = rw e (first-append f (ablesBelow n) (n ∷ []))
-
-  pub scan : (n : ℕ) → Scanned n (firstLeast f (ablesBelow n))
-  scan zero = λ i l. absurd (omega arith)
-  scan (suc n) = go (scan n) (able n) refl
-    where
-      go : Scanned n (firstLeast f (ablesBelow n)) → (b : Bool) → able n ≡ b → Scanned (suc n) (firstLeast f (ablesBelow (suc n)))
-      go h true e = subst (Scanned (suc n)) (sym (scan-take n e)) (take-up n (firstLeast f (ablesBelow n)) e h)
-      go h false e = subst (Scanned (suc n)) (sym (scan-skip n e)) (skip n (firstLeast f (ablesBelow n)) e h)
-
--- ---- a process
+use Rattle.model.proofs.Scans.{Scanned, scan}
+use Rattle.model.proofs.Choices.{passingBelow, first-map, first-shift, first-cong, first-flat, first-some, costOf, least-is}
 
 pub record Process : Type 1 where
   pub State : Type 0
@@ -189,23 +119,23 @@ module _ (P : Process) where
         same (cs ∷ xs) = (refl, same xs)
 
     -- the first completion of least cost begins with the first choice of least cost
-    best-by-first : bestRun x ≡ Option·map (λ c. c ∷ rest c) (firstLeast (through x) (ablesBelow (through x) (P .able x) (P .choices)))
+    best-by-first : bestRun x ≡ Option·map (λ c. c ∷ rest c) (firstLeast (through x) (passingBelow (P .choices) (P .able x)))
     unfolding bestRun
     best-by-first = ap (firstLeast (runCost x)) (runs-by-first x k more)
         ∙ first-flat (runCost x) (runsFrom x) (P .able x) (λ c. c ∷ rest c) (P .choices) by-choice (λ c l a. rw a)
         ∙ ap (Option·map (λ c. c ∷ rest c))
-        (first-shift (λ c. runCost x (c ∷ rest c)) (through x) 0 (ablesBelow (through x) (P .able x) (P .choices))
+        (first-cong (λ c. runCost x (c ∷ rest c)) (through x) (passingBelow (P .choices) (P .able x))
         (all-flat _ (P .choices) _ (λ c l. ⊎-elim
-        (λ (w : P .able x c ≡ true). rw w (rest-cost c l w ∙ sym (zero-add (through x c)), tt))
+        (λ (w : P .able x c ≡ true). rw w (rest-cost c l w, tt))
         (λ (w : P .able x c ≡ false). rw w tt)
         (tested (P .able x c)))))
 
     -- Bellman's equation: the cost to go is the least over the choices, each with the cost to go from where it leads
-    pub bellman : toGo x ≡ least (map (through x) (ablesBelow (through x) (P .able x) (P .choices)))
+    pub bellman : toGo x ≡ least (map (through x) (passingBelow (P .choices) (P .able x)))
     unfolding toGo bestRun
     bellman = least-is (runCost x) (runs x) ∙ ap (costOf (runCost x)) best-by-first
-        ∙ go (firstLeast (through x) (ablesBelow (through x) (P .able x) (P .choices))) (scan (through x) (P .able x) (P .choices))
-        ∙ sym (least-is (through x) (ablesBelow (through x) (P .able x) (P .choices)))
+        ∙ go (firstLeast (through x) (passingBelow (P .choices) (P .able x))) (scan (through x) (P .able x) (P .choices))
+        ∙ sym (least-is (through x) (passingBelow (P .choices) (P .able x)))
       where
         go : (o : Option ℕ) → Scanned (through x) (P .able x) (P .choices) o → costOf (runCost x) (Option·map (λ c. c ∷ rest c) o) ≡ costOf (through x) o
         go none h = refl
@@ -225,9 +155,9 @@ module _ (P : Process) where
       pub goes-on : bestRun (P .next x choice) ≡ some others
 
     pub first-step : (runs x ≡ [] → ⊥) → FirstStep
-    first-step h = go (firstLeast (through x) (ablesBelow (through x) (P .able x) (P .choices))) refl (scan (through x) (P .able x) (P .choices))
+    first-step h = go (firstLeast (through x) (passingBelow (P .choices) (P .able x))) refl (scan (through x) (P .able x) (P .choices))
       where
-        go : (o : Option ℕ) → firstLeast (through x) (ablesBelow (through x) (P .able x) (P .choices)) ≡ o → Scanned (through x) (P .able x) (P .choices) o → FirstStep
+        go : (o : Option ℕ) → firstLeast (through x) (passingBelow (P .choices) (P .able x)) ≡ o → Scanned (through x) (P .able x) (P .choices) o → FirstStep
         go none e s = absurd (Option·none-ne-some _ (sym (ap (Option·map (λ c. c ∷ rest c)) e) ∙ sym best-by-first ∙ best-some x h .1))
         go (some c) e s =
             let b : bestRun x ≡ some (c ∷ rest c) = best-by-first ∙ ap (Option·map (λ c. c ∷ rest c)) e in

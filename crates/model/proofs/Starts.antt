@@ -4,7 +4,6 @@ use mathlib.Core.Bool.{true, true≢false}
 use mathlib.Core.List.{List, [], map}
 use mathlib.Core.Option.{Option, none, some, Option·map, Option·getD}
 use Prim.Native.Nat.{ℕ, _≤_, _<_}
-use native.Mathlib.Nat.{zero-add}
 use borrow.Author.Tests.{lt-ltb}
 use Rattle.model.specs.Walk.{flatMapBelow, listsBelow, keepIf, firstLeast}
 use Rattle.model.specs.TaskList.{full}
@@ -14,8 +13,8 @@ use Rattle.model.specs.Plans.{isSolution, roundCost, planCost, plans, so
 use Rattle.model.proofs.Walks.{keep-flat, keep-map, keep-cong, flat-cong}
 use Rattle.model.proofs.Masks.{size-full}
 use Rattle.model.proofs.Lists.{all-flat}
-use Rattle.model.proofs.Choices.{first-some, first-map, first-flat, first-shift, costOf, least-is}
-use Rattle.model.proofs.Process.{Scanned, scan, ablesBelow}
+use Rattle.model.proofs.Choices.{passingBelow, first-some, first-map, first-flat, first-cong, costOf, least-is}
+use Rattle.model.proofs.Scans.{Scanned, scan}
 use Rattle.model.proofs.Existence.{admissible-is}
 use Rattle.model.proofs.Driving.{Plannable, some-completion}
 
@@ -59,7 +58,7 @@ module _ (S : Sheet) (G : Plannable S) where
   fromStart s = costToGo S (full (S .tasks)) (S .startPoint s)
 
   starts-in-order : List ℕ
-  starts-in-order = ablesBelow fromStart (λ s. true) (S .starts)
+  starts-in-order = passingBelow (S .starts) (λ s. true)
 
   cheapest-by-start : cheapest S ≡ Option·map (λ s. record { start = s; doors = routeFrom s }) (firstLeast fromStart starts-in-order)
   unfolding cheapest planCost roundCost cheapestCompletion fromStart starts-in-order
@@ -69,8 +68,8 @@ module _ (S : Sheet) (G : Plannable S) where
       ∙ ap (Option·map (λ (ds : List ℕ). record { start = s; doors = ds })) (route-is s))
       (λ s l w. absurd (true≢false w))
       ∙ ap (Option·map (λ s. record { start = s; doors = routeFrom s }))
-      (first-shift (λ s. planCost S (record { start = s; doors = routeFrom s })) fromStart 0 starts-in-order
-      (all-flat _ (S .starts) _ (λ s l. (route-cost s ∙ sym (zero-add (fromStart s)), tt))))
+      (first-cong (λ s. planCost S (record { start = s; doors = routeFrom s })) fromStart starts-in-order
+      (all-flat _ (S .starts) _ (λ s l. (route-cost s, tt))))
 
   pub first-start : 0 < S .starts → FirstStart
   unfolding starts-in-order fromStart

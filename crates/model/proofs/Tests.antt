@@ -47,6 +47,11 @@ or-right false b h = h
 pub or-neither : {a b : Bool} → a ≡ false → b ≡ false → (a || b) ≡ false
 or-neither p q = ap₂ _||_ p q
 
+pub and-left-comm : (a b c : Bool) → (a && (b && c)) ≡ (b && (a && c))
+and-left-comm true b c = refl
+and-left-comm false true c = refl
+and-left-comm false false c = refl
+
 pub and-swap : (a b c d : Bool) → (a && b && (c && d)) ≡ (a && c && (b && d))
 and-swap true true c d = refl
 and-swap true false true d = refl

@@ -88,9 +88,6 @@ module _ {A : Type 0} where
   empty-nil [] h = refl
   empty-nil (x ∷ xs) h = absurd (mathlib.Core.Bool.false≢true h)
 
-  pub cons-not-nil : {x : A} {xs : List A} → x ∷ xs ≡ [] → ⊥
-  cons-not-nil e = let z : _≡_ {A = ℕ} 0 1 = cc in omega arith
-
 pub keep-map : {A B : Type 0} (p : B → Bool) (g : A → B) (xs : List A) → keepIf p (map g xs) ≡ map g (keepIf (λ x. p (g x)) xs)
 keep-map p g [] = refl
 keep-map p g (x ∷ xs) = elim (p (g x)) as (λ b. cond b (g x ∷ keepIf p (map g xs)) (keepIf p (map g xs)) ≡ map g (cond b (x ∷ keepIf (λ x. p (g x)) xs) (keepIf (λ x. p (g x)) xs)))
