@@ -1,3 +1,4 @@
+pub mod Acceptance
 pub mod Tests
 pub mod Walks
 pub mod Masks
@@ -29,4 +30,3 @@ pub mod Planning
 pub mod Meanings
 pub mod Agreement
 pub mod Demands
-pub mod Starred

@@ -169,15 +169,15 @@ with-other K t j n = ⊎-elim
 
 -- ---- a list is known by its members
 
-pub ext : (n K L : ℕ) → K < 2 ^ n → L < 2 ^ n → ((j : ℕ) → j < n → bit K j ≡ bit L j) → K ≡ L
-ext zero K L h l f = omega arith
-ext (suc n) K L h l f =
-    let half : K / 2 ≡ L / 2 = ext n (K / 2) (L / 2) (omega arith) (omega arith) (λ j m. sym (bit-suc K j) ∙ f (suc j) (omega arith) ∙ bit-suc L j) in
+pub same-members : (n K L : ℕ) → K < 2 ^ n → L < 2 ^ n → ((j : ℕ) → j < n → bit K j ≡ bit L j) → K ≡ L
+same-members zero K L h l f = omega arith
+same-members (suc n) K L h l f =
+    let half : K / 2 ≡ L / 2 = same-members n (K / 2) (L / 2) (omega arith) (omega arith) (λ j m. sym (bit-suc K j) ∙ f (suc j) (omega arith) ∙ bit-suc L j) in
     omega (arith, sym (bit-zero K) ∙ f 0 (omega arith) ∙ bit-zero L)
 
 -- a list with no task is empty
 pub no-bits : (n K : ℕ) → K < 2 ^ n → ((j : ℕ) → j < n → bit K j ≡ 0) → K ≡ 0
-no-bits n K h f = ext n K 0 h (pow-pos n) (λ j l. f j l ∙ sym (bit-none j))
+no-bits n K h f = same-members n K 0 h (pow-pos n) (λ j l. f j l ∙ sym (bit-none j))
 
 -- ---- sizes
 

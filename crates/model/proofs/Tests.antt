@@ -7,7 +7,7 @@ use Prim.Native.Nat.{ℕ, zero, suc, _≤_, _<_}
 use native.Mathlib.Omega.{arith}
 use lib.Dec.{eqb, leb}
 use borrow.Author.Tests.{eqb-true, eqb-false, eq-eqb, leb-true, le-leb}
-use Rattle.model.specs.Walk.{allBelow, anyBelow, allIn, sameList, between}
+use Rattle.model.specs.Walk.{allBelow, anyBelow, allIn, sameList, isBetween}
 
 -- a test, with its outcome
 pub tested : (b : Bool) → (b ≡ true) ⊎ (b ≡ false)
@@ -67,12 +67,12 @@ eq-or-lt t n h = go (eqb t n) refl
     go true e = inl (eqb-true t n e)
     go false e = let d : t ≢ n = eqb-false t n e in inr (omega arith)
 
-pub between-true : (lo hi x : ℕ) → between lo hi x ≡ true → (lo ≤ x) × (x ≤ hi)
-unfolding between
+pub between-true : (lo hi x : ℕ) → isBetween lo hi x ≡ true → (lo ≤ x) × (x ≤ hi)
+unfolding isBetween
 between-true lo hi x h = (leb-true lo x (and-left (leb lo x) (leb x hi) h), leb-true x hi (and-right (leb lo x) (leb x hi) h))
 
-pub between-is : (lo hi x : ℕ) → lo ≤ x → x ≤ hi → between lo hi x ≡ true
-unfolding between
+pub between-is : (lo hi x : ℕ) → lo ≤ x → x ≤ hi → isBetween lo hi x ≡ true
+unfolding isBetween
 between-is lo hi x l h = and-both (le-leb lo x l) (le-leb x hi h)
 
 -- ---- every number below n, some number below n

@@ -10,7 +10,7 @@ use lib.Pow.{areBytes}
 use borrow.Author.Tests.{ltb-true, ltb-false}
 use Rattle.model.specs.Sheet.{Sheet}
 use Rattle.model.specs.Bytes.{signed}
-use Rattle.model.specs.SheetLayout.{tasksBody, doorsBody, startsBody, pairsBody, rulesBody, pointsBody, distancesBody, fieldWidths, fieldWidth, field, decode}
+use Rattle.model.specs.SheetLayout.{tasksBody, doorsBody, startsBody, pairsBody, rulesBody, pointsBody, distancesBody, fieldWidths, fieldWidth, fieldAt, decode}
 use Rattle.model.proofs.Tests.{tested}
 use Rattle.model.proofs.Numbers.{number-lt}
 use Rattle.model.proofs.Loads.{up, down}
@@ -51,8 +51,8 @@ pub record Widths (S : Sheet) : Type 0 where
   pub endCost : (p : ℕ) → S .endCost p < 2 ^ 32
   pub distance : (p q : ℕ) → S .distance p q < 2 ^ 16
 
-field-lt : (b : List ℕ) → areBytes b ≡ true → (i f e : ℕ) → field b i f e < 256 ^ fieldWidth i f
-unfolding field
+field-lt : (b : List ℕ) → areBytes b ≡ true → (i f e : ℕ) → fieldAt b i f e < 256 ^ fieldWidth i f
+unfolding fieldAt
 field-lt b h i f e = number-lt (fieldWidth i f) b _ h
 
 -- a sheet of bytes has fields of these widths
@@ -60,8 +60,8 @@ pub widths : (b : List ℕ) → areBytes b ≡ true → Widths (decode b)
 unfolding decode fieldWidth fieldWidths
 widths b h = record {
   endLoad = number-lt 2 b 2 h;
-  change-up = λ j. omega (arith, signed-up 2 (field b tasksBody 0 j) (field-lt b h tasksBody 0 j));
-  change-down = λ j. omega (arith, signed-down 2 (field b tasksBody 0 j) (field-lt b h tasksBody 0 j));
+  change-up = λ j. omega (arith, signed-up 2 (fieldAt b tasksBody 0 j) (field-lt b h tasksBody 0 j));
+  change-down = λ j. omega (arith, signed-down 2 (fieldAt b tasksBody 0 j) (field-lt b h tasksBody 0 j));
   task = field-lt b h doorsBody 0;
   arrive = field-lt b h doorsBody 1;
   depart = field-lt b h doorsBody 2;

@@ -131,6 +131,10 @@ planning r cost cells bytes =
     && sameList (r .cells) (cells ++ (913 ∷ 914 ∷ []))
     && sameList (r .bytes) (bytes ++ (237 ∷ 238 ∷ 239 ∷ []))
 
+-- planning refuses with n, and leaves the noise as it was
+abbrev planningRefuses : Planned → ℕ → Bool
+planningRefuses r n = sameAnswer (r .answer) (refused n) && sameList (r .cells) cellNoise && sameList (r .bytes) byteNoise
+
 -- ---- the check
 
 unfoldable pub checkStarred : Bool
@@ -147,6 +151,7 @@ checkStarred =
     && planning (plan paired cellNoise byteNoise) 126 (0 ∷ 20 ∷ 30 ∷ 54 ∷ 24 ∷ 84 ∷ 907 ∷ 908 ∷ 909 ∷ 126 ∷ 138 ∷ 90 ∷ []) (planLikeA 1 0 126)
     -- 17
     && readingRefuses (readSheet ringed) 17
+    && planningRefuses (plan ringed cellNoise byteNoise) 17
     && readingRefuses (readSheet selfPaired) 17
     -- a rule on door 0, with charge 50 and with charge 34, where both plans cost 126
     && planning (plan (charged 50) cellNoise byteNoise) 126 (0 ∷ 20 ∷ 30 ∷ 54 ∷ 24 ∷ 84 ∷ 57 ∷ 64 ∷ 36 ∷ 126 ∷ 118 ∷ 90 ∷ []) (planLikeA 1 0 126)

@@ -6,7 +6,7 @@ use lib.Dec.{eqb, ltb, leb}
 use lib.ListN.{length, getD}
 use lib.IntN.{ℤ, pos, _+ℤ_}
 use lib.Signed.{ltZ}
-use Rattle.model.specs.Walk.{allBelow, anyBelow, between}
+use Rattle.model.specs.Walk.{allBelow, anyBelow, isBetween}
 use Rattle.model.specs.Sheet.{Sheet}
 use Rattle.model.specs.Orders.{noOrder}
 use Rattle.model.specs.Bytes.{numberAt}
@@ -25,7 +25,7 @@ wrongKind b = not (eqb (numberAt 2 b 0) sheetKind)
 
 -- 12: the number of entries of body i is outside the table
 unfoldable pub wrongEntries : List ℕ → ℕ → Bool
-wrongEntries b i = not (between (getD (fewest (entries b pointsBody)) i 0) (getD (most (entries b pointsBody)) i 0) (entries b i))
+wrongEntries b i = not (isBetween (getD (fewest (entries b pointsBody)) i 0) (getD (most (entries b pointsBody)) i 0) (entries b i))
 
 -- 13: contents line i has a wrong body number or offset
 unfoldable pub wrongLine : List ℕ → ℕ → Bool
@@ -51,7 +51,7 @@ badPair S i = leb (S .tasks) (S .sender i) || leb (S .tasks) (S .receiver i)
 
 -- 14, of access rule i: its door or its least count is out of range, or it has a watched bit at N or above, which makes the list 2 ^ N or more
 unfoldable pub badRule : Sheet → ℕ → Bool
-badRule S i = leb (S .doors) (S .ruleDoor i) || leb (2 ^ S .tasks) (S .watched i) || not (between 1 maxTasks (S .leastCount i))
+badRule S i = leb (S .doors) (S .ruleDoor i) || leb (2 ^ S .tasks) (S .watched i) || not (isBetween 1 maxTasks (S .leastCount i))
 
 -- 14: a task, point, door or least count is out of range, or a watched bit at N or above
 unfoldable pub outOfRange : Sheet → Bool

@@ -4,7 +4,7 @@ use mathlib.Core.List.{List, _++_}
 use Prim.Native.Nat.{ℕ, _+_, _*_}
 use lib.Dec.{eqb, ltb}
 use lib.ListN.{length, getD, take}
-use Rattle.model.specs.Walk.{flatMapBelow, mapBelow, sameList, between}
+use Rattle.model.specs.Walk.{flatMapBelow, mapBelow, sameList, isBetween}
 use Rattle.model.specs.Bytes.{numberAt, bytesOf, overwrite}
 use Rattle.model.specs.Answer.{Answer, refused, accepted, refuseIf}
 use Rattle.model.specs.SheetLayout.{maxTasks, lineAt}
@@ -43,10 +43,10 @@ planBytes n start doors cost = planHead n ++ bytesOf 2 start ++ flatMapBelow n (
 
 -- 12: the number of tasks is outside 1 to 12
 unfoldable pub wrongTasks : ℕ → Bool
-wrongTasks n = not (between 1 maxTasks n)
+wrongTasks n = not (isBetween 1 maxTasks n)
 
 -- what writing answers, the length, and the whole buffer afterwards
-pub record Written : Type 0 where
+pub record PlanWritten : Type 0 where
   pub answer : Answer ℕ
   pub bytes : List ℕ
 
@@ -60,7 +60,7 @@ bytesWritten (refused r) bytes buffer = buffer
 bytesWritten (accepted l) bytes buffer = overwrite bytes buffer
 
 -- writing takes n, a start, the first n of an array of twelve doors, a cost and the buffer as lent
-unfoldable pub writePlan : ℕ → ℕ → List ℕ → ℕ → List ℕ → Written
+unfoldable pub writePlan : ℕ → ℕ → List ℕ → ℕ → List ℕ → PlanWritten
 writePlan n start doors cost buffer = record {
   answer = writeAnswer n (length buffer);
   bytes = bytesWritten (writeAnswer n (length buffer)) (planBytes n start doors cost) buffer;

@@ -114,8 +114,8 @@ bodyAt b zero = lineAt bodies
 bodyAt b (suc i) = bodyAt b i + entries b i * entryBytes i
 
 -- field f of entry e of body i
-unfoldable pub field : List ℕ → ℕ → ℕ → ℕ → ℕ
-field b i f e = numberAt (fieldWidth i f) b (bodyAt b i + e * entryBytes i + bytesBefore i f)
+unfoldable pub fieldAt : List ℕ → ℕ → ℕ → ℕ → ℕ
+fieldAt b i f e = numberAt (fieldWidth i f) b (bodyAt b i + e * entryBytes i + bytesBefore i f)
 
 -- ---- what a sheet says
 
@@ -128,18 +128,18 @@ decode b = record {
   pairs = entries b pairsBody;
   rules = entries b rulesBody;
   points = entries b pointsBody;
-  change = λ t. signed 2 (field b tasksBody 0 t);
-  task = λ d. field b doorsBody 0 d;
-  arrive = λ d. field b doorsBody 1 d;
-  depart = λ d. field b doorsBody 2 d;
-  work = λ d. field b doorsBody 3 d;
-  startPoint = λ s. field b startsBody 0 s;
-  sender = λ i. field b pairsBody 0 i;
-  receiver = λ i. field b pairsBody 1 i;
-  ruleDoor = λ i. field b rulesBody 0 i;
-  watched = λ i. field b rulesBody 1 i;
-  leastCount = λ i. field b rulesBody 2 i;
-  charge = λ i. field b rulesBody 3 i;
-  endCost = λ p. field b pointsBody 0 p;
-  distance = λ p q. field b distancesBody 0 (p * entries b pointsBody + q);
+  change = λ t. signed 2 (fieldAt b tasksBody 0 t);
+  task = λ d. fieldAt b doorsBody 0 d;
+  arrive = λ d. fieldAt b doorsBody 1 d;
+  depart = λ d. fieldAt b doorsBody 2 d;
+  work = λ d. fieldAt b doorsBody 3 d;
+  startPoint = λ s. fieldAt b startsBody 0 s;
+  sender = λ i. fieldAt b pairsBody 0 i;
+  receiver = λ i. fieldAt b pairsBody 1 i;
+  ruleDoor = λ i. fieldAt b rulesBody 0 i;
+  watched = λ i. fieldAt b rulesBody 1 i;
+  leastCount = λ i. fieldAt b rulesBody 2 i;
+  charge = λ i. fieldAt b rulesBody 3 i;
+  endCost = λ p. fieldAt b pointsBody 0 p;
+  distance = λ p q. fieldAt b distancesBody 0 (p * entries b pointsBody + q);
 }

@@ -27,8 +27,8 @@ unfoldable pub countBelow : ℕ → (ℕ → Bool) → ℕ
 countBelow n test = sumBelow n (λ i. cond (test i) 1 0)
 
 -- x is at least lo and at most hi
-unfoldable pub between : ℕ → ℕ → ℕ → Bool
-between lo hi x = leb lo x && leb x hi
+unfoldable pub isBetween : ℕ → ℕ → ℕ → Bool
+isBetween lo hi x = leb lo x && leb x hi
 
 module _ {A : Type 0} where
   -- the lists f 0, f 1, .. below n, one behind the other

@@ -1,13 +1,13 @@
 -- The starred lines of document 01 hold of the definitions, by computing. Assumes nothing.
 use lib.Dec.{T}
 use Rattle.model.specs.Examples.{checkStarred}
-use Rattle.model.specs.Walk.{countBelow, between, mapBelow}
+use Rattle.model.specs.Walk.{countBelow, isBetween, mapBelow}
 use Rattle.model.specs.TaskList.{bit, with, without, full, size, watchedIn}
 use Rattle.model.specs.Orders.{isOrder, keepsPair, keepsEveryPair, pairWithin, keepsPairsWithin, isAdmissible, isOrderWithin, admissibleOrders, noOrder, essential, pairsAllow}
 use Rattle.model.specs.Cost.{load, ruleCharge, charges, stepCost}
 use Rattle.model.specs.Plans.{inSheet, isSolution, roundCost, planCost, plans, solutions, cheapest, isCompletion, completions, costToGo}
 use Rattle.model.specs.Bytes.{numberAt, signed, bytesOf, overwrite}
-use Rattle.model.specs.SheetLayout.{fewest, most, fieldWidths, fieldWidth, bytesBefore, entryBytes, lineAt, lineBody, lineOffset, entries, field, decode}
+use Rattle.model.specs.SheetLayout.{fewest, most, fieldWidths, fieldWidth, bytesBefore, entryBytes, lineAt, lineBody, lineOffset, entries, fieldAt, decode}
 use Rattle.model.specs.Faults.{tooShort, wrongKind, wrongEntries, wrongLine, wrongLength, badDoor, badStart, badPair, badRule, outOfRange, lacksDoor, loadBelowZero, unlessFault, readSheet}
 use Rattle.model.specs.PlanLayout.{planStartAt, planDoorsAt, planCostAt, planLength, lineBytes, planHead, planBytes, illFormed, startIn, doorIn, doorsIn, costIn}
 use Rattle.model.specs.Validating.{notInSheet, doneTwice, judged, validate}
@@ -16,13 +16,13 @@ use Rattle.model.specs.Printing.{decimal, refusalLine, stepLine, planLin
 
 pub starred : T checkStarred
 unfolding checkStarred
-    countBelow between mapBelow
+    countBelow isBetween mapBelow
     bit with without full size watchedIn
     isOrder keepsPair keepsEveryPair pairWithin keepsPairsWithin isAdmissible isOrderWithin admissibleOrders noOrder essential pairsAllow
     load ruleCharge charges stepCost
     inSheet isSolution roundCost planCost plans solutions cheapest isCompletion completions costToGo
     numberAt signed bytesOf overwrite
-    fewest most fieldWidths fieldWidth bytesBefore entryBytes lineAt lineBody lineOffset entries field decode
+    fewest most fieldWidths fieldWidth bytesBefore entryBytes lineAt lineBody lineOffset entries fieldAt decode
     tooShort wrongKind wrongEntries wrongLine wrongLength badDoor badStart badPair badRule outOfRange lacksDoor loadBelowZero unlessFault readSheet
     planStartAt planDoorsAt planCostAt planLength lineBytes planHead planBytes illFormed startIn doorIn doorsIn costIn
     notInSheet doneTwice judged validate
