@@ -20,12 +20,13 @@ use Rattle.model.specs.Faults.{Counts, readSheet}
 use Rattle.model.specs.PlanLayout.{planLength, planBytes, doorArray, PlanRead, writePlan, readPlan}
 use Rattle.model.specs.Validating.{validate}
 use Rattle.model.specs.Planning.{cellsNeeded, orNoOrder, planFor, carriedOut, plan}
-use Rattle.model.proofs.Reading.{refused≢accepted, Passes, Reads, accepted-reads, refused-reads, refused-alike, passes-10-to-16}
-use Rattle.model.proofs.Ranks.{DoorsBefore, RanksBefore}
+use Rattle.model.proofs.Reading.{refused≢accepted, accepted-value, Passes, Reads, accepted-reads, refused-reads, refused-alike, passes-10-to-16}
+use Rattle.model.proofs.Ranks.{RanksBefore}
 use Rattle.model.proofs.PlanBytes.{length-is, tasks-fit, array-at, array-front, read-what-was-written, read-length, write-what-was-read, plan-over, written, written-whole, write-refusals, read-refusals}
 use Rattle.model.proofs.Bounds.{round-small}
 use Rattle.model.proofs.Limits.{counts-within}
 use Rattle.model.proofs.Enumerations.{no-order-iff}
+use Rattle.model.proofs.NoOrder.{gets-17}
 use Rattle.model.proofs.Cheapest.{cheapest-solution, cheapest-least, cheapest-first, to-go-attained, to-go-least}
 use Rattle.model.proofs.Driving.{some-completion}
 use Rattle.model.proofs.Solutions.{solution, solution-length, solution-fits}
@@ -42,6 +43,8 @@ SheetNumber r = (10 ≤ r) × (r ≤ 17)
 pub record Demand1 : Type 0 where
   -- a sheet is read or refused with one of 10 to 17
   pub reading : (b : List ℕ) (r : ℕ) → readSheet b ≡ refused r → SheetNumber r
+  -- a sheet that reads returns N and P
+  pub reads-counts : (b : List ℕ) (c : Counts) → readSheet b ≡ accepted c → (c .tasks ≡ decode b .tasks) × (c .points ≡ decode b .points)
   -- planning may also be refused with 20 or 21; on refusal no cell and no byte changes
   pub planning : (b cells buffer : List ℕ) (r : ℕ) → plan b cells buffer .answer ≡ refused r
       → (SheetNumber r ⊎ ((r ≡ 20) ⊎ (r ≡ 21))) × (plan b cells buffer .cells ≡ cells) × (plan b cells buffer .bytes ≡ buffer)
@@ -68,6 +71,10 @@ pub record Demand2 : Type 0 where
       → start < 2 ^ 16 → ((i : ℕ) → i < n → getD doors i 0 < 2 ^ 16) → c < 2 ^ 64 → 32 + 2 * n ≤ length buffer
       → (x : PlanRead) × (readPlan n (take (32 + 2 * n) (writePlan n start doors c buffer .bytes)) ≡ accepted x)
       × (x .start ≡ start) × ((i : ℕ) → i < n → getD (x .doors) i 0 ≡ getD doors i 0) × (x .cost ≡ c)
+  -- writing returns the length, and bytes beyond that stay
+  pub rest-stays : (n start : ℕ) (doors : List ℕ) (c : ℕ) (buffer : List ℕ) → 1 ≤ n → n ≤ maxTasks → 32 + 2 * n ≤ length buffer
+      → (writePlan n start doors c buffer .answer ≡ accepted (32 + 2 * n))
+      × (drop (32 + 2 * n) (writePlan n start doors c buffer .bytes) ≡ drop (32 + 2 * n) buffer)
   -- what reads as a plan is what writing that plan yields
   pub read-then-written : (n : ℕ) (q : List ℕ) (x : PlanRead) → areBytes q ≡ true → readPlan n q ≡ accepted x
       → (buffer : List ℕ) → length buffer ≡ length q → writePlan n (x .start) (x .doors) (x .cost) buffer .bytes ≡ q
@@ -77,6 +84,13 @@ pub record Demand2 : Type 0 where
 -- solution of that sheet, from whichever start listed, costs at least as much, and one that costs the same has a higher start number, or the same start and, where
 -- the doors first differ, a higher door number. And unless planning refuses, the work area then shows, for every open list that the pairs allow, the empty one too,
 -- and for every point, the least cost of finishing from there; units will soon replan in mid-round from those figures."
+
+-- "for every sheet that passes 10 to 16, with room lent for work and plan": nothing is said of what stands in the cells or in the buffer
+pub record Lent (b cells buffer : List ℕ) : Type 0 where
+  pub bytes : areBytes b ≡ true
+  pub passes : (r : ℕ) → 10 ≤ r → r ≤ 16 → readSheet b ≡ refused r → ⊥
+  pub work-room : 2 ^ decode b .tasks * decode b .points ≤ length cells
+  pub plan-room : 32 + 2 * decode b .tasks ≤ length buffer
 
 -- the doors of a plan that was read for the sheet b: as many as there are tasks
 abbrev pub doorsOf : List ℕ → PlanRead → List ℕ
@@ -96,7 +110,9 @@ pub record Cheapest (b cells buffer : List ℕ) : Type 0 where
   pub none-cheaper : (s : ℕ) (ds : List ℕ) → isSolution (decode b) s ds ≡ true → written .cost ≤ roundCost (decode b) s ds
   -- and one that costs the same has a higher start, or the same start and a higher door where the doors first differ
   pub first-of-equals : (s : ℕ) (ds : List ℕ) → isSolution (decode b) s ds ≡ true → roundCost (decode b) s ds ≡ written .cost
-      → ((s ≡ written .start) × (ds ≡ doorsOf b written)) ⊎ ((written .start < s) ⊎ ((written .start ≡ s) × DoorsBefore (doorsOf b written) ds))
+      → ((s ≡ written .start) × (ds ≡ doorsOf b written))
+      ⊎ ((written .start < s)
+      ⊎ ((written .start ≡ s) × ((i : ℕ) × (i < length ds) × (take i (doorsOf b written) ≡ take i ds) × (getD (doorsOf b written) i 0 < getD ds i 0))))
   -- for every list that the pairs allow and every point the cell shows a figure that some completion attains and none undercuts
   pub attained : (K p : ℕ) → K < 2 ^ decode b .tasks → pairsAllow (decode b) K ≡ true → p < decode b .points
       → (ds : List ℕ) × (isCompletion (decode b) K ds ≡ true) × (cost (decode b) p ds ≡ getD (plan b cells buffer .cells) (K * decode b .points + p) 0)
@@ -109,15 +125,11 @@ pub record Cheapest (b cells buffer : List ℕ) : Type 0 where
   pub as-many : length (plan b cells buffer .cells) ≡ length cells
 
 pub record Demand3 (b cells buffer : List ℕ) : Type 0 where
+  -- reading and planning refuse with 17 exactly when no order of the tasks keeps every pair
+  pub reading-refuses-iff : (readSheet b ≡ refused 17) ↔ ((ts : List ℕ) → isAdmissible (decode b) ts ≡ true → ⊥)
   pub refuses-iff : (plan b cells buffer .answer ≡ refused 17) ↔ ((ts : List ℕ) → isAdmissible (decode b) ts ≡ true → ⊥)
+  -- and otherwise planning leaves the cheapest plan
   pub otherwise : (plan b cells buffer .answer ≡ refused 17 → ⊥) → Cheapest b cells buffer
-
--- the sheet passes 10 to 16, and there is room
-pub record Lent (b cells buffer : List ℕ) : Type 0 where
-  pub bytes : areBytes b ≡ true
-  pub passes : (r : ℕ) → 10 ≤ r → r ≤ 16 → readSheet b ≡ refused r → ⊥
-  pub work-room : 2 ^ decode b .tasks * decode b .points ≤ length cells
-  pub plan-room : 32 + 2 * decode b .tasks ≤ length buffer
 
 -- ---- the proofs
 
@@ -125,6 +137,7 @@ pub demand-1 : Demand1
 unfolding readSheet validate plan planFor
 demand-1 = record {
   reading = λ b r e. ⊎-elim (λ (h : SheetNumber r). h) (λ (h : Reads b × _). absurd (refused≢accepted (sym (h .1)))) (refused-reads b _ r e);
+  reads-counts = λ b c e. let v = accepted-value (accepted-reads b _ c e .1) in (ap (λ x. x .tasks) (sym v), ap (λ x. x .points) (sym v));
   planning = λ b cells buffer r e.
       let f = refused-planned b cells buffer r e in
       (plan-refusals b (length cells) (length buffer) r f, ap (λ x. x .cells) (plan-refused b cells buffer r f), ap (λ x. x .bytes) (plan-refused b cells buffer r f));
@@ -150,6 +163,9 @@ demand-2 = record {
         (λ i l. array-at n (λ i. getD doors i 0) i few l),
         refl,
       );
+  rest-stays = λ n start doors c buffer one few room.
+      let w = written n start doors c buffer (tasks-fit n one few) (rw length-is room) in
+      rw (← length-is n) (w .0, w .2);
   read-then-written = λ n q x hq e buffer same.
       let l = read-length n q x e in
       written-whole n (x .start) (x .doors) (x .cost) buffer (l .0) (same ∙ l .1) ∙ write-what-was-read n q x hq e;
@@ -228,12 +244,15 @@ module _ (b cells buffer : List ℕ) (L : Lent b cells buffer) where
     }
       where
         rank : {s : ℕ} {ds : List ℕ} → (record { start = s; doors = ds } ≡ x) ⊎ RanksBefore x (record { start = s; doors = ds })
-            → ((s ≡ x .start) × (ds ≡ x .doors)) ⊎ ((x .start < s) ⊎ ((x .start ≡ s) × DoorsBefore (x .doors) ds))
+            → ((s ≡ x .start) × (ds ≡ x .doors))
+            ⊎ ((x .start < s) ⊎ ((x .start ≡ s) × ((i : ℕ) × (i < length ds) × (take i (x .doors) ≡ take i ds) × (getD (x .doors) i 0 < getD ds i 0))))
         rank (inl e) = inl (ap (λ y. y .start) e, ap (λ y. y .doors) e)
-        rank (inr e) = inr e
+        rank (inr (inl l)) = inr (inl l)
+        rank (inr (inr h)) = inr (inr (h .0, (h .1 .0, h .1 .2, h .1 .3, h .1 .4)))
 
 pub demand-3 : (b cells buffer : List ℕ) → Lent b cells buffer → Demand3 b cells buffer
 demand-3 b cells buffer L = record {
+  reading-refuses-iff = gets-17 b (passes b cells buffer L);
   refuses-iff = ((λ e. no-order-iff (decode b) .0 (go (noOrder (decode b)) refl e)), λ h. refused-17 b cells buffer L (no-order-iff (decode b) .1 h));
   otherwise = λ h. cheapest-planned b cells buffer L (not-17 (noOrder (decode b)) refl h);
 }
