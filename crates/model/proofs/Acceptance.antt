@@ -1,18 +1,18 @@
 -- The starred lines of document 01 hold of the definitions, by computing. Assumes nothing.
 use lib.Dec.{T}
 use Rattle.model.specs.Examples.{checkStarred}
-use Rattle.model.specs.Walk.{countBelow, isBetween, mapBelow}
+use Rattle.model.specs.Folds.{countBelow, isBetween, mapBelow}
 use Rattle.model.specs.TaskList.{bit, with, without, full, size, watchedIn}
 use Rattle.model.specs.Orders.{isOrder, keepsPair, keepsEveryPair, pairWithin, keepsPairsWithin, isAdmissible, isOrderWithin, admissibleOrders, noOrder, essential, pairsAllow}
 use Rattle.model.specs.Cost.{load, ruleCharge, charges, stepCost}
 use Rattle.model.specs.Plans.{inSheet, isSolution, roundCost, planCost, plans, solutions, cheapest, isCompletion, completions, costToGo}
 use Rattle.model.specs.Bytes.{numberAt, signed, bytesOf, overwrite}
-use Rattle.model.specs.SheetLayout.{fewest, most, fieldWidths, fieldWidth, bytesBefore, entryBytes, lineAt, lineBody, lineOffset, entries, fieldAt, decode}
-use Rattle.model.specs.Faults.{tooShort, wrongKind, wrongEntries, wrongLine, wrongLength, badDoor, badStart, badPair, badRule, outOfRange, lacksDoor, loadBelowZero, unlessFault, readSheet}
+use Rattle.model.specs.SheetLayout.{kind1, fieldWidth, bytesBefore, entryBytes, lineAt, lineBody, lineOffset, entries, fieldAt, sheetLength, decodeBy, decode}
+use Rattle.model.specs.Faults.{tooShort, wrongKind, wrongEntries, wrongLine, wrongLength, badDoor, badStart, badPair, badRule, outOfRange, lacksDoor, tooLight, unlessFault, readSheet}
 use Rattle.model.specs.PlanLayout.{planStartAt, planDoorsAt, planCostAt, planLength, lineBytes, planHead, planBytes, illFormed, startIn, doorIn, doorsIn, costIn}
-use Rattle.model.specs.Validating.{notInSheet, doneTwice, judged, validate}
+use Rattle.model.specs.Validating.{notInSheet, doneTwice, validateFor, validate}
 use Rattle.model.specs.Planning.{cellsNeeded, planFor, cellAfter, cellsAfter, plan}
-use Rattle.model.specs.Printing.{decimal, refusalLine, stepLine, planLines, printedFor, printed}
+use Rattle.model.specs.Printing.{decimal, refusalLine, stepLine, planLines, printInput, printedFor, printed}
 
 pub starred : T checkStarred
 unfolding checkStarred
@@ -22,10 +22,10 @@ unfolding checkStarred
     load ruleCharge charges stepCost
     inSheet isSolution roundCost planCost plans solutions cheapest isCompletion completions costToGo
     numberAt signed bytesOf overwrite
-    fewest most fieldWidths fieldWidth bytesBefore entryBytes lineAt lineBody lineOffset entries fieldAt decode
-    tooShort wrongKind wrongEntries wrongLine wrongLength badDoor badStart badPair badRule outOfRange lacksDoor loadBelowZero unlessFault readSheet
+    kind1 fieldWidth bytesBefore entryBytes lineAt lineBody lineOffset entries fieldAt sheetLength decodeBy decode
+    tooShort wrongKind wrongEntries wrongLine wrongLength badDoor badStart badPair badRule outOfRange lacksDoor tooLight unlessFault readSheet
     planStartAt planDoorsAt planCostAt planLength lineBytes planHead planBytes illFormed startIn doorIn doorsIn costIn
-    notInSheet doneTwice judged validate
+    notInSheet doneTwice validateFor validate
     cellsNeeded planFor cellAfter cellsAfter plan
-    decimal refusalLine stepLine planLines printedFor printed
+    decimal refusalLine stepLine planLines printInput printedFor printed
 starred = tt

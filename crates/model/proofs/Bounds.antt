@@ -11,19 +11,19 @@ use lib.IntN.{natAbs}
 use lib.ListN.{length, length-map}
 use lib.Pow.{areBytes}
 use borrow.Author.Tests.{eqb-true, eq-eqb}
-use Rattle.model.specs.Walk.{sumBelow, listsBelow, least, countOf}
+use Rattle.model.specs.Folds.{sumBelow, listsBelow, least, countOf}
 use Rattle.model.specs.TaskList.{full, size, maskOf}
 use Rattle.model.specs.Sheet.{Sheet}
 use Rattle.model.specs.Orders.{isOrder, isAdmissible, isOrderWithin}
 use Rattle.model.specs.Cost.{load, ruleCharge, charges, stepCost, cost}
 use Rattle.model.specs.Plans.{inSheet, isSolution, roundCost, isCompletion, completions, costToGo}
-use Rattle.model.specs.SheetLayout.{maxTasks, maxRules, decode}
+use Rattle.model.specs.SheetLayout.{maxTasks, maxRules, kind1, decode}
 use Rattle.model.proofs.Tests.{tested, and-left, and-right}
-use Rattle.model.proofs.Walks.{sum-cong, sum-le, sum-mono, sum-add}
+use Rattle.model.proofs.Folds.{sum-cong, sum-le, sum-mono, sum-add}
 use Rattle.model.proofs.Masks.{size-le}
 use Rattle.model.proofs.Lists.{All, all-kept}
 use Rattle.model.proofs.Counting.{order-length, order-once}
-use Rattle.model.proofs.Limits.{CountsWithin, counts-within}
+use Rattle.model.proofs.Limits.{CountsWithin, counts-within, entries-within}
 use Rattle.model.proofs.Reading.{Reads}
 use Rattle.model.proofs.Loads.{load-magnitude}
 use Rattle.model.proofs.Widths.{Widths, widths}
@@ -48,36 +48,32 @@ abbrev pub chargesOn : Sheet → List ℕ → ℕ
 chargesOn S [] = 0
 chargesOn S (d ∷ ds) = charges S (maskOf (map (S .task) (d ∷ ds))) d + chargesOn S ds
 
--- a rule costs its charge or nothing
-pub rule-charge-le : (S : Sheet) (K i : ℕ) → ruleCharge S K i ≤ S .charge i
-unfolding ruleCharge
-rule-charge-le S K i = elim (leb (S .leastCount i) _) as (λ t. cond t (S .charge i) 0 ≤ S .charge i) [ true ↦ le-refl (S .charge i) | false ↦ omega arith ]
+-- where rule i never costs more than c i
+module _ (S : Sheet) (c : ℕ → ℕ) (most : (K i : ℕ) → ruleCharge S K i ≤ c i) where
+  -- of the rules, only those on door d are charged there
+  charges-le : (K d : ℕ) → charges S K d ≤ sumBelow (S .rules) (λ i. c i * cond (eqb d (S .ruleDoor i)) 1 0)
+  unfolding charges
+  charges-le K d = sum-mono (S .rules) _ _ (λ i l. ⊎-elim
+      (λ (w : eqb (S .ruleDoor i) d ≡ true). rw (w, eq-eqb d (S .ruleDoor i) (sym (eqb-true (S .ruleDoor i) d w))) (omega (arith, most K i)))
+      (λ (w : eqb (S .ruleDoor i) d ≡ false). rw w (omega arith))
+      (tested (eqb (S .ruleDoor i) d)))
 
--- of the rules, only those on door d are charged there
-charges-le : (S : Sheet) (K d : ℕ) → charges S K d ≤ sumBelow (S .rules) (λ i. S .charge i * cond (eqb d (S .ruleDoor i)) 1 0)
-unfolding charges
-charges-le S K d = sum-mono (S .rules) _ _ (λ i l. ⊎-elim
-    (λ (w : eqb (S .ruleDoor i) d ≡ true). rw (w, eq-eqb d (S .ruleDoor i) (sym (eqb-true (S .ruleDoor i) d w))) (omega (arith, rule-charge-le S K i)))
-    (λ (w : eqb (S .ruleDoor i) d ≡ false). rw w (omega arith))
-    (tested (eqb (S .ruleDoor i) d)))
+  -- a route is charged for each rule at most as often as it uses the rule's door
+  charges-counted : (ds : List ℕ) → chargesOn S ds ≤ sumBelow (S .rules) (λ i. c i * countOf (S .ruleDoor i) ds)
+  charges-counted [] = omega arith
+  charges-counted (d ∷ ds) = rw split (omega (arith, charges-le (maskOf (map (S .task) (d ∷ ds))) d, charges-counted ds))
+    where
+      split : sumBelow (S .rules) (λ i. c i * countOf (S .ruleDoor i) (d ∷ ds))
+          ≡ sumBelow (S .rules) (λ i. c i * cond (eqb d (S .ruleDoor i)) 1 0) + sumBelow (S .rules) (λ i. c i * countOf (S .ruleDoor i) ds)
+      split = sum-cong (S .rules) _ _ (λ i l. mul-add (c i) _ _) ∙ sum-add (S .rules) _ _
 
--- a route is charged at most the charge of each rule as often as it uses the rule's door
-charges-counted : (S : Sheet) (ds : List ℕ) → chargesOn S ds ≤ sumBelow (S .rules) (λ i. S .charge i * countOf (S .ruleDoor i) ds)
-charges-counted S [] = omega arith
-charges-counted S (d ∷ ds) = rw split (omega (arith, charges-le S (maskOf (map (S .task) (d ∷ ds))) d, charges-counted S ds))
-  where
-    split : sumBelow (S .rules) (λ i. S .charge i * countOf (S .ruleDoor i) (d ∷ ds))
-        ≡ sumBelow (S .rules) (λ i. S .charge i * cond (eqb d (S .ruleDoor i)) 1 0) + sumBelow (S .rules) (λ i. S .charge i * countOf (S .ruleDoor i) ds)
-    split = sum-cong (S .rules) _ _ (λ i l. mul-add (S .charge i) _ _) ∙ sum-add (S .rules) _ _
-
--- each access rule is charged at most once: a route that uses no door twice is charged at most the sum of all charges
-pub charged-once : (S : Sheet) (ds : List ℕ) → ((d : ℕ) → countOf d ds ≤ 1) → chargesOn S ds ≤ sumBelow (S .rules) (S .charge)
-charged-once S ds h = le-trans (charges-counted S ds)
-    (sum-mono (S .rules) _ (S .charge) (λ i l. omega (arith, mul-le-mul-left (S .charge i) (h (S .ruleDoor i)))))
+  -- each access rule is charged at most once on a route that uses no door twice
+  pub charged-once : (ds : List ℕ) → ((d : ℕ) → countOf d ds ≤ 1) → chargesOn S ds ≤ sumBelow (S .rules) c
+  charged-once ds h = le-trans (charges-counted ds) (sum-mono (S .rules) _ c (λ i l. omega (arith, mul-le-mul-left (c i) (h (S .ruleDoor i)))))
 
 -- ---- the bound, over any limits
 
--- the largest values: of the numbers of tasks and rules, of a load up or down, and of the fields that a cost is made of
+-- the largest values: of the numbers of tasks and rules, of a load up or down, of what a rule costs, and of the fields that a cost is made of
 pub record Limits : Type 0 where
   pub tasks : ℕ
   pub rules : ℕ
@@ -97,7 +93,7 @@ pub record WithinLimits (L : Limits) (S : Sheet) : Type 0 where
   pub load : (K : ℕ) → natAbs (load S K) ≤ L .load
   pub distance : (p q : ℕ) → S .distance p q ≤ L .distance
   pub work : (d : ℕ) → S .work d ≤ L .work
-  pub charge : (i : ℕ) → S .charge i ≤ L .charge
+  pub charge : (K i : ℕ) → ruleCharge S K i ≤ L .charge
   pub endCost : (p : ℕ) → S .endCost p ≤ L .endCost
 
 least-le : {A : Type 0} (f : A → ℕ) (c : ℕ) (xs : List A) → All (λ x. f x ≤ c) xs → least (map f xs) ≤ c
@@ -117,7 +113,7 @@ module _ (L : Limits) (S : Sheet) (W : WithinLimits L S) where
 
   -- a route that uses no door twice is charged at most once for each rule
   pub charged-le : (ds : List ℕ) → ((d : ℕ) → countOf d ds ≤ 1) → chargesOn S ds ≤ S .rules * L .charge
-  charged-le ds h = le-trans (charged-once S ds h) (sum-le (S .rules) (L .charge) (S .charge) (λ i l. W .charge i))
+  charged-le ds h = le-trans (charged-once S (λ i. L .charge) (W .charge) ds h) (sum-le (S .rules) (L .charge) (λ i. L .charge) (λ i l. le-refl (L .charge)))
 
   order-bound : (K p : ℕ) (ds : List ℕ) → isOrder (S .tasks) K (map (S .task) ds) ≡ true → cost S p ds ≤ sumLimit L
   unfolding sumLimit
@@ -152,8 +148,8 @@ module _ (L : Limits) (S : Sheet) (W : WithinLimits L S) where
 -- ---- sheets of kind 1
 
 -- the largest numbers of tasks and rules, and fields of 16 and 32 bits; no load is more up than this, nor more down
-unfoldable pub kind1 : Limits
-kind1 = record {
+unfoldable pub kind1Limits : Limits
+kind1Limits = record {
   tasks = maxTasks;
   rules = maxRules;
   load = 2 ^ 16 - 1 + maxTasks * (2 ^ 15 - 1);
@@ -164,33 +160,38 @@ kind1 = record {
 }
 
 -- no sum needs more than 40 bits
-pub kind1-sums : sumLimit kind1 < 2 ^ 40
-unfolding sumLimit kind1
+pub kind1-sums : sumLimit kind1Limits < 2 ^ 40
+unfolding sumLimit kind1Limits
 kind1-sums = lit< tt
 
+-- a rule of kind 1 costs its charge or nothing
+rule-charge-le : (S : Sheet) (K i : ℕ) → ruleCharge S K i ≤ S .charge i
+unfolding ruleCharge
+rule-charge-le S K i = elim (leb (S .leastCount i) _) as (λ t. cond t (S .charge i) 0 ≤ S .charge i) [ true ↦ le-refl (S .charge i) | false ↦ omega arith ]
+
 -- a sheet that reads is within these limits
-pub kind1-within : (b : List ℕ) → areBytes b ≡ true → Reads b → WithinLimits kind1 (decode b)
-unfolding kind1
+pub kind1-within : (b : List ℕ) → areBytes b ≡ true → Reads b → WithinLimits kind1Limits (decode b)
+unfolding kind1Limits
 kind1-within b h r =
-    let n : CountsWithin (decode b) = counts-within b (r .passes .counts) in
+    let n : CountsWithin (decode b) = counts-within b (entries-within kind1 b (r .passed-tests .counts)) in
     let w : Widths (decode b) = widths b h in
     record {
       tasks = n .tasks;
       rules = n .rules;
-      load = λ K. load-magnitude (decode b) K (2 ^ 15 - 1) (2 ^ 15) (kind1 .load) (λ j l. omega (arith, w .change-up j)) (λ j l. w .change-down j) (omega arith) (omega arith);
+      load = λ K. load-magnitude (decode b) K (2 ^ 15 - 1) (2 ^ 15) (kind1Limits .load) (λ j l. omega (arith, w .change-up j)) (λ j l. w .change-down j) (omega arith) (omega arith);
       distance = λ p q. omega (arith, w .distance p q);
       work = λ d. omega (arith, w .work d);
-      charge = λ i. omega (arith, w .charge i);
+      charge = λ K i. omega (arith, rule-charge-le (decode b) K i, w .charge i);
       endCost = λ p. omega (arith, w .endCost p);
     }
 
 -- of a sheet that reads, every completion's cost from every point, every solution's cost and every cost to go is below 2 ^ 40
 module _ (b : List ℕ) (h : areBytes b ≡ true) (r : Reads b) where
   pub cost-small : (K p : ℕ) (ds : List ℕ) → isCompletion (decode b) K ds ≡ true → cost (decode b) p ds < 2 ^ 40
-  cost-small K p ds c = lt-of-le-of-lt (cost-bound kind1 (decode b) (kind1-within b h r) K p ds c) kind1-sums
+  cost-small K p ds c = lt-of-le-of-lt (cost-bound kind1Limits (decode b) (kind1-within b h r) K p ds c) kind1-sums
 
   pub round-small : (s : ℕ) (ds : List ℕ) → isSolution (decode b) s ds ≡ true → roundCost (decode b) s ds < 2 ^ 40
-  round-small s ds c = lt-of-le-of-lt (round-bound kind1 (decode b) (kind1-within b h r) s ds c) kind1-sums
+  round-small s ds c = lt-of-le-of-lt (round-bound kind1Limits (decode b) (kind1-within b h r) s ds c) kind1-sums
 
   pub to-go-small : (K p : ℕ) → costToGo (decode b) K p < 2 ^ 40
-  to-go-small K p = lt-of-le-of-lt (to-go-bound kind1 (decode b) (kind1-within b h r) K p) kind1-sums
+  to-go-small K p = lt-of-le-of-lt (to-go-bound kind1Limits (decode b) (kind1-within b h r) K p) kind1-sums

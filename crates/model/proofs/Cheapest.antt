@@ -9,7 +9,7 @@ use native.Mathlib.Nat.{le-refl}
 use native.Mathlib.Omega.{arith}
 use lib.Dec.{ltb}
 use borrow.Author.Tests.{ltb-true, ltb-false}
-use Rattle.model.specs.Walk.{cheaper, firstLeast}
+use Rattle.model.specs.Folds.{cheaper, firstLeast}
 use Rattle.model.specs.Sheet.{Sheet}
 use Rattle.model.specs.Cost.{cost}
 use Rattle.model.specs.Plans.{Plan, isSolution, roundCost, planCost, solutions, cheapest, isCompletion, completions, costToGo}

@@ -8,7 +8,7 @@ use Prim.Native.Nat.{ℕ, zero, suc, _+_, _<_, min}
 use native.Mathlib.Omega.{arith}
 use lib.Dec.{ltb}
 use borrow.Author.Tests.{ltb-true, ltb-false, lt-ltb, le-ltb}
-use Rattle.model.specs.Walk.{flatMapBelow, cheaper, firstLeast, least}
+use Rattle.model.specs.Folds.{flatMapBelow, cheaper, firstLeast, least}
 use Rattle.model.proofs.Tests.{tested}
 use Rattle.model.proofs.Lists.{All, AllSome, all-imply}
 

@@ -7,14 +7,14 @@ use Prim.Native.Nat.{ℕ, suc, _+_, _^_, _<_}
 use native.Mathlib.Omega.{arith}
 use lib.Dec.{ltb}
 use borrow.Author.Tests.{eqb-true, eq-eqb, ltb-true}
-use Rattle.model.specs.Walk.{flatMapBelow, listsBelow, allIn, firstLeast, least}
+use Rattle.model.specs.Folds.{flatMapBelow, listsBelow, allIn, firstLeast, least}
 use Rattle.model.specs.TaskList.{without, size, maskOf}
 use Rattle.model.specs.Sheet.{Sheet}
 use Rattle.model.specs.Orders.{isOrderWithin, canComeFirst}
 use Rattle.model.specs.Cost.{stepCost, cost}
 use Rattle.model.specs.Plans.{inSheet, isCompletion, completions, costToGo, cheapestCompletion}
 use Rattle.model.proofs.Tests.{tested, same-test, and-left-comm, and-right}
-use Rattle.model.proofs.Walks.{keep-cong, flat-cong}
+use Rattle.model.proofs.Folds.{keep-cong, flat-cong}
 use Rattle.model.proofs.Masks.{size-none, size-without, without-le}
 use Rattle.model.proofs.Lists.{All, all-kept, map-cong}
 use Rattle.model.proofs.Choices.{first-cong}

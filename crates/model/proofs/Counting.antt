@@ -10,11 +10,11 @@ use native.Mathlib.Omega.{arith}
 use lib.Dec.{eqb, ltb}
 use lib.ListN.{length}
 use borrow.Author.Tests.{eqb-true, eq-eqb, ne-eqb, ltb-true, ltb-false}
-use Rattle.model.specs.Walk.{sumBelow, allIn, countOf}
+use Rattle.model.specs.Folds.{sumBelow, allIn, countOf}
 use Rattle.model.specs.TaskList.{bit, full, size}
 use Rattle.model.specs.Orders.{isOrder}
 use Rattle.model.proofs.Tests.{tested, and-left, and-right, and-both, eq-or-lt, all-at, all-below}
-use Rattle.model.proofs.Walks.{sum-cong, sum-none, sum-more, sum-le}
+use Rattle.model.proofs.Folds.{sum-cong, sum-none, sum-more, sum-le}
 use Rattle.model.proofs.Masks.{bit-lt, bit-above, full-bit, size-is}
 use Rattle.model.proofs.Lists.{member-all, in-all}
 

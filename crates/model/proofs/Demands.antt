@@ -1,4 +1,4 @@
--- The three demands of the mission, as three theorems over the predicates of specs/: `demand-1`, `demand-2` and `demand-3`. Assumes nothing.
+-- The three demands on the product, as three theorems over the predicates of specs/: `demand-1`, `demand-2` and `demand-3`. Assumes nothing.
 -- An answer is `accepted` or `refused`. Every definition is a total function of any bytes and any numbers, so every call ends and leans on no check made by its caller.
 use mathlib.Core.Path.{_≡_, refl, sym, ap, ap₂, _∙_}
 use mathlib.Core.Logic.{_⊎_, inl, inr, ⊎-elim, _↔_}
@@ -15,22 +15,24 @@ use Rattle.model.specs.Orders.{isAdmissible, noOrder, pairsAllow}
 use Rattle.model.specs.Cost.{cost}
 use Rattle.model.specs.Plans.{Plan, isSolution, roundCost, planCost, cheapest, isCompletion, costToGo}
 use Rattle.model.specs.Answer.{refused, accepted, refuseIf}
-use Rattle.model.specs.SheetLayout.{maxTasks, decode}
+use Rattle.model.specs.SheetLayout.{decode}
 use Rattle.model.specs.Faults.{Counts, readSheet}
-use Rattle.model.specs.PlanLayout.{planLength, planBytes, doorArray, PlanRead, writePlan, readPlan}
+use Rattle.model.specs.PlanLayout.{maxPlanDoors, planLength, planBytes, doorArray, PlanRead, writePlan, readPlan}
 use Rattle.model.specs.Validating.{validate}
 use Rattle.model.specs.Planning.{cellsNeeded, orNoOrder, planFor, carriedOut, plan}
-use Rattle.model.proofs.Reading.{refused≢accepted, accepted-value, Passes, Reads, accepted-reads, refused-reads, refused-alike, passes-10-to-16}
+use Rattle.model.proofs.Reading.{refused≢accepted, Passed, Reads, reads-then, accepted-reads, refused-reads, refused-alike}
+use Rattle.model.proofs.Passing.{Passes, passes-iff}
+use Rattle.model.proofs.Loads.{Light, light, light-passes}
 use Rattle.model.proofs.Ranks.{RanksBefore}
 use Rattle.model.proofs.PlanBytes.{length-is, tasks-fit, array-at, array-front, read-what-was-written, read-length, write-what-was-read, plan-over, written, written-whole, write-refusals, read-refusals}
 use Rattle.model.proofs.Bounds.{round-small}
-use Rattle.model.proofs.Limits.{counts-within}
-use Rattle.model.proofs.Enumerations.{no-order-iff}
+use Rattle.model.proofs.Limits.{CountsWithin, counts-within}
+use Rattle.model.proofs.Enumerations.{has-order, no-order-false, no-order-iff}
 use Rattle.model.proofs.NoOrder.{gets-17}
 use Rattle.model.proofs.Cheapest.{cheapest-solution, cheapest-least, cheapest-first, to-go-attained, to-go-least}
 use Rattle.model.proofs.Driving.{some-completion}
 use Rattle.model.proofs.Solutions.{solution, solution-length, solution-fits}
-use Rattle.model.proofs.Judging.{validate-iff, judge-refusals}
+use Rattle.model.proofs.Validating.{validate-iff, judge-refusals}
 use Rattle.model.proofs.Planning.{cell-shown, cell-kept, cell-beyond, length-cells, plan-for, planned, refused-planned, plan-refused, plan-refusals, plannable, has-plan}
 
 -- ---- Demand 1. "A task sheet, whole, torn or stray bytes, is read or refused with one of the numbers 10 to 17. Planning may also be refused with 20 or 21,
@@ -41,10 +43,12 @@ abbrev pub SheetNumber : ℕ → Type 0
 SheetNumber r = (10 ≤ r) × (r ≤ 17)
 
 pub record Demand1 : Type 0 where
-  -- a sheet is read or refused with one of 10 to 17
+  -- a sheet is refused with one of 10 to 17
   pub reading : (b : List ℕ) (r : ℕ) → readSheet b ≡ refused r → SheetNumber r
-  -- a sheet that reads returns N and P
-  pub reads-counts : (b : List ℕ) (c : Counts) → readSheet b ≡ accepted c → (c .tasks ≡ decode b .tasks) × (c .points ≡ decode b .points)
+  -- or it is read, with N and P: exactly if it is laid out as it should be, no load is below zero, and some order of the tasks keeps every pair
+  pub reads-iff : (b : List ℕ)
+      → (readSheet b ≡ accepted (record { tasks = decode b .tasks; points = decode b .points }))
+      ↔ (Passes b × Light (decode b) × ((ts : List ℕ) × (isAdmissible (decode b) ts ≡ true)))
   -- planning may also be refused with 20 or 21; on refusal no cell and no byte changes
   pub planning : (b cells buffer : List ℕ) (r : ℕ) → plan b cells buffer .answer ≡ refused r
       → (SheetNumber r ⊎ ((r ≡ 20) ⊎ (r ≡ 21))) × (plan b cells buffer .cells ≡ cells) × (plan b cells buffer .bytes ≡ buffer)
@@ -63,16 +67,16 @@ pub record Demand1 : Type 0 where
 
 pub record Demand2 : Type 0 where
   -- accepted with cost c exactly if the bytes are those of a plan that is a solution and costs c
-  pub accepted-iff : (b q : List ℕ) (c : ℕ) (N : Counts) → areBytes b ≡ true → areBytes q ≡ true → readSheet b ≡ accepted N
+  pub accepted-iff : (b q : List ℕ) (c : ℕ) (counts : Counts) → areBytes b ≡ true → areBytes q ≡ true → readSheet b ≡ accepted counts
       → (validate b q ≡ accepted c)
       ↔ ((s : ℕ) × (ds : List ℕ) × (isSolution (decode b) s ds ≡ true) × (c ≡ roundCost (decode b) s ds) × (q ≡ planBytes (decode b .tasks) s ds c))
   -- what was written into any buffer with room for it reads as what was written
-  pub written-then-read : (n start : ℕ) (doors : List ℕ) (c : ℕ) (buffer : List ℕ) → 1 ≤ n → n ≤ maxTasks
+  pub written-then-read : (n start : ℕ) (doors : List ℕ) (c : ℕ) (buffer : List ℕ) → 1 ≤ n → n ≤ maxPlanDoors
       → start < 2 ^ 16 → ((i : ℕ) → i < n → getD doors i 0 < 2 ^ 16) → c < 2 ^ 64 → 32 + 2 * n ≤ length buffer
       → (x : PlanRead) × (readPlan n (take (32 + 2 * n) (writePlan n start doors c buffer .bytes)) ≡ accepted x)
       × (x .start ≡ start) × ((i : ℕ) → i < n → getD (x .doors) i 0 ≡ getD doors i 0) × (x .cost ≡ c)
   -- writing returns the length, and bytes beyond that stay
-  pub rest-stays : (n start : ℕ) (doors : List ℕ) (c : ℕ) (buffer : List ℕ) → 1 ≤ n → n ≤ maxTasks → 32 + 2 * n ≤ length buffer
+  pub rest-stays : (n start : ℕ) (doors : List ℕ) (c : ℕ) (buffer : List ℕ) → 1 ≤ n → n ≤ maxPlanDoors → 32 + 2 * n ≤ length buffer
       → (writePlan n start doors c buffer .answer ≡ accepted (32 + 2 * n))
       × (drop (32 + 2 * n) (writePlan n start doors c buffer .bytes) ≡ drop (32 + 2 * n) buffer)
   -- what reads as a plan is what writing that plan yields
@@ -88,7 +92,9 @@ pub record Demand2 : Type 0 where
 -- "for every sheet that passes 10 to 16, with room lent for work and plan": nothing is said of what stands in the cells or in the buffer
 pub record Lent (b cells buffer : List ℕ) : Type 0 where
   pub bytes : areBytes b ≡ true
-  pub passes : (r : ℕ) → 10 ≤ r → r ≤ 16 → readSheet b ≡ refused r → ⊥
+  -- 10 to 15, in plain words (proofs/Passing.antt), and 16: the end load plus all negative changes is not below zero
+  pub passes : Passes b
+  pub light : Light (decode b)
   pub work-room : 2 ^ decode b .tasks * decode b .points ≤ length cells
   pub plan-room : 32 + 2 * decode b .tasks ≤ length buffer
 
@@ -137,7 +143,14 @@ pub demand-1 : Demand1
 unfolding readSheet validate plan planFor
 demand-1 = record {
   reading = λ b r e. ⊎-elim (λ (h : SheetNumber r). h) (λ (h : Reads b × _). absurd (refused≢accepted (sym (h .1)))) (refused-reads b _ r e);
-  reads-counts = λ b c e. let v = accepted-value (accepted-reads b _ c e .1) in (ap (λ x. x .tasks) (sym v), ap (λ x. x .points) (sym v));
+  reads-iff = λ b. (
+    (λ e. let R : Reads b = accepted-reads b _ _ e .0 in (passes-iff b .0 (R .passed-tests), light (decode b) (R .light), has-order (decode b) (R .ordered))),
+    (λ h. reads-then b _ (record {
+      passed-tests = passes-iff b .1 (h .0);
+      light = light-passes (decode b) (h .1);
+      ordered = no-order-false (decode b) (h .2 .0) (h .2 .1);
+    })),
+  );
   planning = λ b cells buffer r e.
       let f = refused-planned b cells buffer r e in
       (plan-refusals b (length cells) (length buffer) r f, ap (λ x. x .cells) (plan-refused b cells buffer r f), ap (λ x. x .bytes) (plan-refused b cells buffer r f));
@@ -172,20 +185,23 @@ demand-2 = record {
 }
 
 module _ (b cells buffer : List ℕ) (L : Lent b cells buffer) where
-  passes : Passes b
-  passes = passes-10-to-16 b (L .passes)
+  tests : Passed b
+  tests = passes-iff b .1 (L .passes)
+
+  counts : CountsWithin (decode b)
+  counts = counts-within b (L .passes .counts)
 
   -- there is a plan or no order
   answer-is : planFor b (length cells) (length buffer) ≡ refuseIf (noOrder (decode b)) 17 (orNoOrder (cheapest (decode b)))
   unfolding cellsNeeded
-  answer-is = plan-for b (length cells) (length buffer) passes (L .work-room) (rw length-is (L .plan-room))
+  answer-is = plan-for b (length cells) (length buffer) tests (light-passes (decode b) (L .light)) (L .work-room) (rw length-is (L .plan-room))
 
   refused-17 : noOrder (decode b) ≡ true → plan b cells buffer .answer ≡ refused 17
   refused-17 e = ap (λ x. x .answer) (plan-refused b cells buffer 17 (answer-is ∙ ap (λ t. refuseIf t 17 (orNoOrder (cheapest (decode b)))) e))
 
   module _ (ordered : noOrder (decode b) ≡ false) where
     reads : Reads b
-    reads = record { passes = passes; ordered = ordered }
+    reads = record { passed-tests = tests; light = light-passes (decode b) (L .light); ordered = ordered }
 
     x : Plan
     x = has-plan b reads .0
@@ -201,14 +217,14 @@ module _ (b cells buffer : List ℕ) (L : Lent b cells buffer) where
     solves = cheapest-solution (decode b) x is-cheapest
 
     doors-are : take (decode b .tasks) (doorArray (decode b .tasks) (λ i. getD (x .doors) i 0)) ≡ x .doors
-    doors-are = array-front (decode b .tasks) (x .doors) (counts-within b (passes .counts) .tasks)
+    doors-are = array-front (decode b .tasks) (x .doors) (counts .tasks)
         (solution-length (decode b) (x .start) (x .doors) (solution (decode b) (x .start) (x .doors) solves))
 
     read-back : readPlan (decode b .tasks) (planBytes (decode b .tasks) (x .start) (x .doors) (planCost (decode b) x))
         ≡ accepted (record { start = x .start; doors = doorArray (decode b .tasks) (λ i. getD (x .doors) i 0); cost = planCost (decode b) x })
     unfolding planCost
     read-back =
-        let W = counts-within b (passes .counts) in
+        let W : CountsWithin (decode b) = counts in
         let small = solution-fits (decode b) W (x .start) (x .doors) (solution (decode b) (x .start) (x .doors) solves) in
         read-what-was-written (decode b .tasks) (x .start) (x .doors) (planCost (decode b) x) (tasks-fit (decode b .tasks) (W .one-task) (W .tasks)) (small .0) (small .1)
         (lt-of-lt-of-le (round-small b (L .bytes) reads (x .start) (x .doors) solves) (lit≤ tt))
@@ -239,7 +255,7 @@ module _ (b cells buffer : List ℕ) (L : Lent b cells buffer) where
       attained = λ K p k a l. let t = to-go-attained (decode b) K p (some-completion (decode b) (plannable b reads) K) in (t .0, t .1, t .2 ∙ sym (shown K p k a l));
       not-undercut = λ K p k a l ds h. rw shown (to-go-least (decode b) K p ds h);
       other-lists = λ K p k a l. rw after (cell-kept (decode b) cells K p l k (cell-lent K p k l) a);
-      beyond = λ i l. rw after (cell-beyond (decode b) cells i (counts-within b (passes .counts) .one-point) l);
+      beyond = λ i l. rw after (cell-beyond (decode b) cells i (counts .one-point) l);
       as-many = rw after (length-cells (decode b) cells);
     }
       where
@@ -252,7 +268,7 @@ module _ (b cells buffer : List ℕ) (L : Lent b cells buffer) where
 
 pub demand-3 : (b cells buffer : List ℕ) → Lent b cells buffer → Demand3 b cells buffer
 demand-3 b cells buffer L = record {
-  reading-refuses-iff = gets-17 b (passes b cells buffer L);
+  reading-refuses-iff = gets-17 b (tests b cells buffer L) (light-passes (decode b) (L .light));
   refuses-iff = ((λ e. no-order-iff (decode b) .0 (go (noOrder (decode b)) refl e)), λ h. refused-17 b cells buffer L (no-order-iff (decode b) .1 h));
   otherwise = λ h. cheapest-planned b cells buffer L (not-17 (noOrder (decode b)) refl h);
 }

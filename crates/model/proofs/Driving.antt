@@ -6,7 +6,7 @@ use mathlib.Core.Option.{some}
 use Prim.Native.Nat.{ℕ, suc, _+_, _^_, _≤_, _<_}
 use native.Mathlib.Omega.{arith}
 use borrow.Author.Tests.{lt-ltb}
-use Rattle.model.specs.Walk.{least}
+use Rattle.model.specs.Folds.{least}
 use Rattle.model.specs.TaskList.{without, full, size}
 use Rattle.model.specs.Sheet.{Sheet}
 use Rattle.model.specs.Orders.{noOrder, canComeFirst}

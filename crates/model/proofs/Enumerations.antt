@@ -7,13 +7,13 @@ use Prim.Native.Nat.{ℕ}
 use lib.Dec.{ltb}
 use lib.ListN.{length, length-map}
 use borrow.Author.Tests.{ltb-true}
-use Rattle.model.specs.Walk.{allIn, keepIf, isEmpty, listsBelow}
+use Rattle.model.specs.Folds.{allIn, keepIf, isEmpty, listsBelow}
 use Rattle.model.specs.TaskList.{full, size}
 use Rattle.model.specs.Sheet.{Sheet}
 use Rattle.model.specs.Orders.{isOrder, isAdmissible, isOrderWithin, admissibleOrders, ordersWithin, noOrder}
 use Rattle.model.specs.Plans.{Plan, inSheet, isSolution, plans, solutions, isCompletion, completions}
 use Rattle.model.proofs.Tests.{tested, and-left, and-right}
-use Rattle.model.proofs.Walks.{empty-nil}
+use Rattle.model.proofs.Folds.{empty-nil}
 use Rattle.model.proofs.Masks.{size-full}
 use Rattle.model.proofs.Lists.{all-kept, all-member, mem-flat, mem-keep, lists-member}
 use Rattle.model.proofs.Counting.{order-in, order-length}
@@ -92,6 +92,12 @@ no-order-iff S = (
       (λ (w : noOrder S ≡ false). let r = has-order S w in absurd (h (r .0) (r .1)))
       (tested (noOrder S)),
 )
+
+pub no-order-false : (S : Sheet) (ts : List ℕ) → isAdmissible S ts ≡ true → noOrder S ≡ false
+no-order-false S ts a = ⊎-elim
+    (λ (w : noOrder S ≡ true). absurd (no-order-iff S .0 w ts a))
+    (λ (w : noOrder S ≡ false). w)
+    (tested (noOrder S))
 
 -- ---- what is left of a round
 

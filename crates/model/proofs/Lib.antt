@@ -1,6 +1,6 @@
 pub mod Acceptance
 pub mod Tests
-pub mod Walks
+pub mod Folds
 pub mod Masks
 pub mod Lists
 pub mod Choices
@@ -12,6 +12,7 @@ pub mod FirstTask
 pub mod Completions
 pub mod Existence
 pub mod Reading
+pub mod Passing
 pub mod Counting
 pub mod Ranks
 pub mod Enumerations
@@ -25,7 +26,7 @@ pub mod Driving
 pub mod Starts
 pub mod PlanBytes
 pub mod Solutions
-pub mod Judging
+pub mod Validating
 pub mod Planning
 pub mod Meanings
 pub mod Agreement

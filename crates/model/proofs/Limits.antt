@@ -6,18 +6,21 @@ use Prim.Native.Nat.{ℕ, _≤_, _<_}
 use lib.Dec.{lit<}
 use lib.ListN.{getD}
 use borrow.Author.Tests.{not-false}
-use Rattle.model.specs.Walk.{anyBelow}
+use Rattle.model.specs.Folds.{anyBelow}
 use Rattle.model.specs.Sheet.{Sheet}
-use Rattle.model.specs.SheetLayout.{maxTasks, maxDoors, maxStarts, maxPairs, maxRules, maxPoints, tasksBody, doorsBody, startsBody, pairsBody, rulesBody, pointsBody, bodies, fewest, most, entries, decode}
+use Rattle.model.specs.SheetLayout.{Layout, maxTasks, maxDoors, maxStarts, maxPairs, maxRules, maxPoints, tasksBody, doorsBody, startsBody, pairsBody, rulesBody, pointsBody, bodies, kind1, entries, decodeBy, decode}
 use Rattle.model.specs.Faults.{wrongEntries}
 use Rattle.model.proofs.Tests.{none-at, between-true}
 
--- each number of entries is within the table
-pub within : (b : List ℕ) → anyBelow bodies (wrongEntries b) ≡ false → (i : ℕ) → i < bodies
-    → (getD (fewest (entries b pointsBody)) i 0 ≤ entries b i) × (entries b i ≤ getD (most (entries b pointsBody)) i 0)
-unfolding wrongEntries
-within b h i l = between-true _ _ (entries b i) (not-false _ (none-at bodies (wrongEntries b) h i l))
+-- the number of entries of each body is within the table
+abbrev pub EntriesWithin : Layout → List ℕ → Type 0
+EntriesWithin L b = (i : ℕ) → i < bodies → (getD (L .fewest (entries b pointsBody)) i 0 ≤ entries b i) × (entries b i ≤ getD (L .most (entries b pointsBody)) i 0)
 
+pub entries-within : (L : Layout) (b : List ℕ) → anyBelow bodies (wrongEntries L b) ≡ false → EntriesWithin L b
+unfolding wrongEntries
+entries-within L b h i l = between-true _ _ (entries b i) (not-false _ (none-at bodies (wrongEntries L b) h i l))
+
+-- the same for kind 1, body by body
 pub record CountsWithin (S : Sheet) : Type 0 where
   pub one-task : 1 ≤ S .tasks
   pub tasks : S .tasks ≤ maxTasks
@@ -30,19 +33,17 @@ pub record CountsWithin (S : Sheet) : Type 0 where
   pub one-point : 1 ≤ S .points
   pub points : S .points ≤ maxPoints
 
-pub counts-within : (b : List ℕ) → anyBelow bodies (wrongEntries b) ≡ false → CountsWithin (decode b)
-unfolding decode fewest most
-counts-within b h =
-    let at : (i : ℕ) → i < bodies → (getD (fewest (entries b pointsBody)) i 0 ≤ entries b i) × (entries b i ≤ getD (most (entries b pointsBody)) i 0) = within b h in
-    record {
-      one-task = at tasksBody (lit< tt) .0;
-      tasks = at tasksBody (lit< tt) .1;
-      one-door = at doorsBody (lit< tt) .0;
-      doors = at doorsBody (lit< tt) .1;
-      one-start = at startsBody (lit< tt) .0;
-      starts = at startsBody (lit< tt) .1;
-      pairs = at pairsBody (lit< tt) .1;
-      rules = at rulesBody (lit< tt) .1;
-      one-point = at pointsBody (lit< tt) .0;
-      points = at pointsBody (lit< tt) .1;
-    }
+pub counts-within : (b : List ℕ) → EntriesWithin kind1 b → CountsWithin (decode b)
+unfolding decode decodeBy kind1
+counts-within b at = record {
+  one-task = at tasksBody (lit< tt) .0;
+  tasks = at tasksBody (lit< tt) .1;
+  one-door = at doorsBody (lit< tt) .0;
+  doors = at doorsBody (lit< tt) .1;
+  one-start = at startsBody (lit< tt) .0;
+  starts = at startsBody (lit< tt) .1;
+  pairs = at pairsBody (lit< tt) .1;
+  rules = at rulesBody (lit< tt) .1;
+  one-point = at pointsBody (lit< tt) .0;
+  points = at pointsBody (lit< tt) .1;
+}

@@ -9,7 +9,7 @@ use native.Mathlib.Omega.{arith}
 use lib.Dec.{ltb}
 use lib.ListN.{length}
 use borrow.Author.Tests.{ltb-true, lt-ltb}
-use Rattle.model.specs.Walk.{flatMapBelow, keepIf, listsBelow, allIn}
+use Rattle.model.specs.Folds.{flatMapBelow, keepIf, listsBelow, allIn}
 use Rattle.model.proofs.Tests.{and-left, and-right, and-both, eq-or-lt}
 
 -- ---- of each element

@@ -9,13 +9,13 @@ use lib.Dec.{T, ltb}
 use lib.IntN.{ℤ, pos, negsuc, subℕ, _+ℤ_, natAbs}
 use lib.Signed.{ltZ, nonNeg}
 use borrow.Author.Tests.{ltb-true, ltb-false, lt-ltb, le-ltb}
-use Rattle.model.specs.Walk.{sumBelow}
+use Rattle.model.specs.Folds.{sumBelow}
 use Rattle.model.specs.TaskList.{bit, member}
 use Rattle.model.specs.Sheet.{Sheet}
 use Rattle.model.specs.Cost.{loadBelow, load}
-use Rattle.model.specs.Faults.{lightestBelow, loadBelowZero}
+use Rattle.model.specs.Faults.{lightestBelow, tooLight}
 use Rattle.model.proofs.Tests.{tested}
-use Rattle.model.proofs.Walks.{sum-le, sum-mono}
+use Rattle.model.proofs.Folds.{sum-le, sum-mono}
 use Rattle.model.proofs.Masks.{bit-cases}
 
 -- ---- differences
@@ -124,17 +124,27 @@ lightest-over S (suc n) =
     taken a b (pos u) = rw (le-ltb u 0 (omega arith)) (sub-add a b (pos 0) ∙ ap (λ x. subℕ x (b + 0)) (omega arith))
     taken a b (negsuc v) = sub-add a b (negsuc v) ∙ ap (λ x. subℕ x (b + suc v)) (omega arith)
 
--- all that is taken away is at most the end load
-down-le : (S : Sheet) → loadBelowZero S ≡ false → sumBelow (S .tasks) (λ j. down (S .change j)) ≤ S .endLoad
-unfolding loadBelowZero
-down-le S h = ltb-false _ _ (sym (ap (λ x. ltZ x (pos 0)) (lightest-over S (S .tasks)) ∙ sub-negative (S .endLoad) _) ∙ h)
+-- the end load plus all negative changes is not below zero: all that is taken away is at most the end load
+abbrev pub Light : Sheet → Type 0
+Light S = sumBelow (S .tasks) (λ j. down (S .change j)) ≤ S .endLoad
+
+light-is : (S : Sheet) → tooLight S ≡ ltb (S .endLoad) (sumBelow (S .tasks) (λ j. down (S .change j)))
+unfolding tooLight
+light-is S = ap (λ x. ltZ x (pos 0)) (lightest-over S (S .tasks)) ∙ sub-negative (S .endLoad) _
+
+-- which is what 16 asks
+pub light : (S : Sheet) → tooLight S ≡ false → Light S
+light S h = ltb-false _ _ (sym (light-is S) ∙ h)
+
+pub light-passes : (S : Sheet) → Light S → tooLight S ≡ false
+light-passes S h = light-is S ∙ le-ltb _ _ h
 
 -- where 16 does not apply, the load is a natural number
-pub load-is : (S : Sheet) (K : ℕ) → loadBelowZero S ≡ false → load S K ≡ pos (S .endLoad + ups S K (S .tasks) - downs S K (S .tasks))
+pub load-is : (S : Sheet) (K : ℕ) → Light S → load S K ≡ pos (S .endLoad + ups S K (S .tasks) - downs S K (S .tasks))
 unfolding load downs
 load-is S K h = load-over S K (S .tasks) ∙ sub-pos (S .endLoad + ups S K (S .tasks)) (downs S K (S .tasks))
-    (omega (arith, down-le S h, sum-mono (S .tasks) (λ j. bit K j * down (S .change j)) (λ j. down (S .change j)) (λ j l. once K j (down (S .change j)))))
+    (omega (arith, h, sum-mono (S .tasks) (λ j. bit K j * down (S .change j)) (λ j. down (S .change j)) (λ j l. once K j (down (S .change j)))))
 
 -- where 16 does not apply, no list of tasks has a load below zero
-pub load-not-negative : (S : Sheet) (K : ℕ) → loadBelowZero S ≡ false → T (nonNeg (load S K))
+pub load-not-negative : (S : Sheet) (K : ℕ) → Light S → T (nonNeg (load S K))
 load-not-negative S K h = rw (load-is S K h) tt

@@ -7,9 +7,9 @@ use native.Mathlib.Nat.{div-one, div-div-eq-div-mul, pow-succ', mod-lt, zero-lt-
 use native.Mathlib.Omega.{arith}
 use lib.Pow.{pow-pos, pow-mono}
 use borrow.Author.Tests.{eqb-true, eqb-false, eq-eqb}
-use Rattle.model.specs.Walk.{sumBelow, countBelow}
+use Rattle.model.specs.Folds.{sumBelow, countBelow}
 use Rattle.model.specs.TaskList.{bit, member, with, without, full, size}
-use Rattle.model.proofs.Walks.{sum-cong, sum-none, sum-more, sum-zero, sum-le}
+use Rattle.model.proofs.Folds.{sum-cong, sum-none, sum-more, sum-zero, sum-le}
 
 -- ---- bits
 

@@ -7,7 +7,7 @@ use Prim.Native.Nat.{ℕ, _^_, _<_}
 use native.Mathlib.Omega.{arith}
 use lib.Dec.{eqb, ltb}
 use borrow.Author.Tests.{eqb-true, eqb-false, ne-eqb, ltb-true, lt-ltb, not-true}
-use Rattle.model.specs.Walk.{allBelow, countOf, indexOf}
+use Rattle.model.specs.Folds.{allBelow, countOf, indexOf}
 use Rattle.model.specs.TaskList.{bit, member, with, full, maskOf}
 use Rattle.model.specs.Sheet.{Sheet}
 use Rattle.model.specs.Orders.{isOrder, keepsPair, keepsEveryPair, essential, pairWithin, keepsPairsWithin, isOrderWithin}

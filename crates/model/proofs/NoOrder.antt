@@ -14,9 +14,9 @@ use Rattle.model.proofs.Tests.{tested, same-test, not-both, and-both, e
 use Rattle.model.proofs.Masks.{without-same, without-other, without-le, size-none, size-zero, size-full, size-without, full-lt}
 use Rattle.model.specs.Answer.{Answer, refused, accepted, refuseIf}
 use Rattle.model.specs.SheetLayout.{decode}
-use Rattle.model.specs.Faults.{Counts, readSheet}
+use Rattle.model.specs.Faults.{Counts, tooLight, readSheet}
 use Rattle.model.proofs.Ranges.{InRange}
-use Rattle.model.proofs.Reading.{refused≢accepted, Passes, passes-then}
+use Rattle.model.proofs.Reading.{refused≢accepted, Passed, light-then}
 use Rattle.model.proofs.FirstTask.{within-cons, within-uncons, first-bit, nil-size, size-nil}
 use Rattle.model.proofs.Existence.{part, part-within, admissible-is}
 use Rattle.model.proofs.Enumerations.{has-order, no-order-iff}
@@ -145,11 +145,11 @@ module _ (S : Sheet) (R : InRange S) where
       go false e h = let o = has-order S e in absurd (h (off-empty (o .0, sym (admissible-is S R (o .0)) ∙ o .1)))
 
 -- a sheet that passes 10 to 16 is refused with 17 exactly where no order of the tasks keeps every pair
-pub gets-17 : (b : List ℕ) → Passes b → (readSheet b ≡ refused 17) ↔ ((ts : List ℕ) → isAdmissible (decode b) ts ≡ true → ⊥)
+pub gets-17 : (b : List ℕ) → Passed b → tooLight (decode b) ≡ false → (readSheet b ≡ refused 17) ↔ ((ts : List ℕ) → isAdmissible (decode b) ts ≡ true → ⊥)
 unfolding readSheet
-gets-17 b h = (
-  λ (e : readSheet b ≡ refused 17). no-order-iff (decode b) .0 (go (noOrder (decode b)) (sym (passes-then b counts h) ∙ e)),
-  λ k. passes-then b counts h ∙ ap (λ t. refuseIf t 17 counts) (no-order-iff (decode b) .1 k),
+gets-17 b h l = (
+  λ (e : readSheet b ≡ refused 17). no-order-iff (decode b) .0 (go (noOrder (decode b)) (sym (light-then b counts h l) ∙ e)),
+  λ k. light-then b counts h l ∙ ap (λ t. refuseIf t 17 counts) (no-order-iff (decode b) .1 k),
 )
   where
     counts : Answer Counts

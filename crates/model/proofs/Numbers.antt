@@ -11,7 +11,7 @@ use lib.ListN.{length, getD, take, drop, length-append, List·getD-append}
 use lib.Pow.{areBytes}
 use lib.Seq.{drop-cons, take-add, take-append-seam, drop-append-seam}
 use borrow.Author.Tests.{ltb-true, lt-ltb}
-use Rattle.model.specs.Walk.{flatMapBelow}
+use Rattle.model.specs.Folds.{flatMapBelow}
 use Rattle.model.specs.Bytes.{numberAt, bytesOf, overwrite}
 use Rattle.model.proofs.Tests.{and-left, and-right, and-both, eq-or-lt}
 

@@ -10,15 +10,15 @@ use lib.ListN.{length, getD, take, drop, length-append, drop-of-length-le}
 use lib.Pow.{areBytes}
 use lib.Seq.{length-take-le, take-at, take-all, getD-take, ext-getD}
 use borrow.Author.Tests.{ltb-true, eqb-true, eq-eqb, lt-ltb, le-ltb, not-false}
-use Rattle.model.specs.Walk.{mapBelow}
+use Rattle.model.specs.Folds.{mapBelow}
 use Rattle.model.specs.Bytes.{numberAt, bytesOf, overwrite}
 use Rattle.model.specs.Answer.{Answer, refused, accepted, refuseIf}
-use Rattle.model.specs.SheetLayout.{maxTasks, lineAt}
-use Rattle.model.specs.PlanLayout.{planStartAt, planDoorsAt, planCostAt, planLength, lineBytes, planHead, planBytes, wrongTasks, writeAnswer, bytesWritten, writePlan, illFormed, startIn, doorIn, doorsIn, costIn, doorArray, PlanRead, readPlan}
+use Rattle.model.specs.SheetLayout.{lineAt}
+use Rattle.model.specs.PlanLayout.{maxPlanDoors, planStartAt, planDoorsAt, planCostAt, planLength, lineBytes, planHead, planBytes, wrongTasks, writeAnswer, bytesWritten, writePlan, illFormed, startIn, doorIn, doorsIn, costIn, doorArray, PlanRead, readPlan}
 use Rattle.model.proofs.Tests.{tested, or-left, or-right, same-list, list-same, between-true, between-is}
-use Rattle.model.proofs.Walks.{flat-cong}
+use Rattle.model.proofs.Folds.{flat-cong}
 use Rattle.model.proofs.Reading.{refused≢accepted, refused-number, accepted-value, passed}
-use Rattle.model.proofs.Walks.{length-mapBelow, mapBelow-at}
+use Rattle.model.proofs.Folds.{length-mapBelow, mapBelow-at}
 use Rattle.model.proofs.Numbers.{length-bytesOf, bytes-below, bytes-append, bytes-flat, number-front, read-last, written-on, row, length-row, read-row, row-on, overwritten}
 
 -- ---- the parts of a plan
@@ -27,9 +27,9 @@ pub length-is : (n : ℕ) → planLength n ≡ 32 + 2 * n
 unfolding planLength planCostAt planDoorsAt planStartAt lineAt
 length-is n = omega arith
 
-pub tasks-fit : (n : ℕ) → 1 ≤ n → n ≤ maxTasks → wrongTasks n ≡ false
+pub tasks-fit : (n : ℕ) → 1 ≤ n → n ≤ maxPlanDoors → wrongTasks n ≡ false
 unfolding wrongTasks
-tasks-fit n l h = ap not (between-is 1 maxTasks n l h)
+tasks-fit n l h = ap not (between-is 1 maxPlanDoors n l h)
 
 length-head : (n : ℕ) → length (planHead n) ≡ planStartAt
 unfolding planHead lineBytes planStartAt lineAt
@@ -112,16 +112,16 @@ cost-again n s ds c h = rw (← length-to-doors n s ds) (read-last 8 c (toDoors 
 -- the array that reading fills
 array-cong : (n : ℕ) (f g : ℕ → ℕ) → ((i : ℕ) → i < n → f i ≡ g i) → doorArray n f ≡ doorArray n g
 unfolding doorArray mapBelow
-array-cong n f g h = flat-cong maxTasks (λ i. cond (ltb i n) (f i) 0 ∷ []) (λ i. cond (ltb i n) (g i) 0 ∷ []) (λ i l. ⊎-elim
+array-cong n f g h = flat-cong maxPlanDoors (λ i. cond (ltb i n) (f i) 0 ∷ []) (λ i. cond (ltb i n) (g i) 0 ∷ []) (λ i l. ⊎-elim
     (λ (w : ltb i n ≡ true). rw (w, h i (ltb-true i n w)))
     (λ (w : ltb i n ≡ false). rw w)
     (tested (ltb i n)))
 
-pub array-at : (n : ℕ) (f : ℕ → ℕ) (i : ℕ) → n ≤ maxTasks → i < n → getD (doorArray n f) i 0 ≡ f i
+pub array-at : (n : ℕ) (f : ℕ → ℕ) (i : ℕ) → n ≤ maxPlanDoors → i < n → getD (doorArray n f) i 0 ≡ f i
 unfolding doorArray
-array-at n f i h l = mapBelow-at maxTasks (λ i. cond (ltb i n) (f i) 0) i 0 (omega arith) ∙ rw (lt-ltb i n l)
+array-at n f i h l = mapBelow-at maxPlanDoors (λ i. cond (ltb i n) (f i) 0) i 0 (omega arith) ∙ rw (lt-ltb i n l)
 
-pub array-front : (n : ℕ) (ds : List ℕ) → n ≤ maxTasks → length ds ≡ n → take n (doorArray n (λ i. getD ds i 0)) ≡ ds
+pub array-front : (n : ℕ) (ds : List ℕ) → n ≤ maxPlanDoors → length ds ≡ n → take n (doorArray n (λ i. getD ds i 0)) ≡ ds
 unfolding doorArray
 array-front n ds h e =
     let l : length (take n (doorArray n (λ i. getD ds i 0))) ≡ n = length-take-le n _ (rw length-mapBelow h) in
@@ -167,7 +167,7 @@ unfolding readPlan wrongTasks doorsIn
 write-what-was-read n q r b e =
     let e₁ = passed (wrongTasks n) 12 _ r e in
     let e₂ = passed (illFormed n q) 30 _ r (e₁ .1) in
-    let h : n ≤ maxTasks = between-true 1 maxTasks n (not-false _ (e₁ .0)) .1 in
+    let h : n ≤ maxPlanDoors = between-true 1 maxPlanDoors n (not-false _ (e₁ .0)) .1 in
     subst (λ (x : PlanRead). planBytes n (x .start) (x .doors) (x .cost) ≡ q) (accepted-value (e₂ .1))
     (plan-cong n (startIn q) (doorArray n (doorIn q)) (doorsIn n q) (costIn n q) (λ i l. array-at n (doorIn q) i h l ∙ sym (mapBelow-at n (doorIn q) i 0 l))
     ∙ well-formed-is n q b (e₂ .0))

@@ -15,14 +15,15 @@ use Rattle.model.specs.Sheet.{Sheet}
 use Rattle.model.specs.Orders.{noOrder, pairsAllow}
 use Rattle.model.specs.Plans.{Plan, cheapest, costToGo}
 use Rattle.model.specs.Answer.{Answer, refused, accepted, refuseIf}
-use Rattle.model.specs.SheetLayout.{decode}
+use Rattle.model.specs.SheetLayout.{kind1, decode}
 use Rattle.model.specs.PlanLayout.{planLength}
+use Rattle.model.specs.Faults.{tooLight}
 use Rattle.model.specs.Planning.{cellsNeeded, orNoOrder, planFor, cellAfter, cellsAfter, carriedOut, plan}
 use Rattle.model.specs.TaskList.{full}
 use Rattle.model.proofs.Tests.{tested}
-use Rattle.model.proofs.Walks.{length-mapBelow, mapBelow-at}
-use Rattle.model.proofs.Reading.{refused≢accepted, refused-number, Reads, Passes, passes-then, refused-reads}
-use Rattle.model.proofs.Limits.{counts-within}
+use Rattle.model.proofs.Folds.{length-mapBelow, mapBelow-at}
+use Rattle.model.proofs.Reading.{refused≢accepted, refused-number, Reads, Passed, light-then, refused-reads}
+use Rattle.model.proofs.Limits.{counts-within, entries-within}
 use Rattle.model.proofs.Ranges.{in-range, served}
 use Rattle.model.proofs.Cheapest.{cheapest-some}
 use Rattle.model.proofs.Driving.{Plannable, has-completion}
@@ -62,10 +63,10 @@ module _ (S : Sheet) (cells : List ℕ) where
 -- ---- the answer
 
 -- with room for the cells and for the bytes, there is a plan or no order
-pub plan-for : (b : List ℕ) (cells room : ℕ) → Passes b → cellsNeeded (decode b) ≤ cells → planLength (decode b .tasks) ≤ room
+pub plan-for : (b : List ℕ) (cells room : ℕ) → Passed b → tooLight (decode b) ≡ false → cellsNeeded (decode b) ≤ cells → planLength (decode b .tasks) ≤ room
     → planFor b cells room ≡ refuseIf (noOrder (decode b)) 17 (orNoOrder (cheapest (decode b)))
 unfolding planFor
-plan-for b cells room h c r = passes-then b _ h ∙ rw (le-ltb cells (cellsNeeded (decode b)) c, le-ltb room (planLength (decode b .tasks)) r)
+plan-for b cells room h l c r = light-then b _ h l ∙ rw (le-ltb cells (cellsNeeded (decode b)) c, le-ltb room (planLength (decode b .tasks)) r)
 
 -- a plan is carried out; a refusal leaves cells and buffer as they were
 pub planned : (b cells buffer : List ℕ) (x : Plan) → planFor b (length cells) (length buffer) ≡ accepted x → plan b cells buffer ≡ carriedOut (decode b) (accepted x) cells buffer
@@ -103,8 +104,8 @@ plan-refusals b cells room r e = ⊎-elim inl
 
 pub plannable : (b : List ℕ) → Reads b → Plannable (decode b)
 plannable b h = record {
-  ranges = in-range (decode b) (h .passes .ranges);
-  doors = served (decode b) (h .passes .doors);
+  ranges = in-range kind1 (decode b) (h .passed-tests .ranges);
+  doors = served (decode b) (h .passed-tests .doors);
   ordered = h .ordered;
 }
 
@@ -112,4 +113,4 @@ pub has-plan : (b : List ℕ) → Reads b → (x : Plan) × (cheapest (decode b)
 has-plan b h =
     let G : Plannable (decode b) = plannable b h in
     let c = has-completion (decode b) G (full (decode b .tasks)) in
-    cheapest-some (decode b) 0 (c .0) (solution-completes (decode b) G 0 (c .0) (counts-within b (h .passes .counts) .one-start) ∙ c .1)
+    cheapest-some (decode b) 0 (c .0) (solution-completes (decode b) G 0 (c .0) (counts-within b (entries-within kind1 b (h .passed-tests .counts)) .one-start) ∙ c .1)

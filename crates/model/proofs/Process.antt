@@ -8,9 +8,9 @@ use Prim.Native.Nat.{ℕ, suc, _+_, _≤_, _<_}
 use native.Mathlib.Omega.{arith}
 use lib.Dec.{eqb, ltb}
 use borrow.Author.Tests.{eq-eqb, lt-ltb}
-use Rattle.model.specs.Walk.{flatMapBelow, listsBelow, keepIf, firstLeast, least}
+use Rattle.model.specs.Folds.{flatMapBelow, listsBelow, keepIf, firstLeast, least}
 use Rattle.model.proofs.Tests.{tested}
-use Rattle.model.proofs.Walks.{flat-cong, keep-flat, keep-cong, keep-none, keep-map}
+use Rattle.model.proofs.Folds.{flat-cong, keep-flat, keep-cong, keep-none, keep-map}
 use Rattle.model.proofs.Lists.{All, all-flat}
 use Rattle.model.proofs.Scans.{Scanned, scan}
 use Rattle.model.proofs.Choices.{passingBelow, first-map, first-shift, first-cong, first-flat, first-some, costOf, least-is}

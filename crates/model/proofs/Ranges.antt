@@ -1,14 +1,14 @@
--- What 14 and 15 rule out: every number that a sheet names is in the sheet, and every task has a door. Assumes nothing.
-use mathlib.Core.Path.{_≡_}
+-- What 14 and 15 rule out, and nothing else: every number that a sheet names is in the sheet, and every task has a door. Assumes nothing.
+use mathlib.Core.Path.{_≡_, ap}
 use mathlib.Core.Bool.{false, not, _||_}
 use Prim.Native.Nat.{ℕ, _^_, _≤_, _<_}
 use lib.Dec.{eqb, leb}
-use borrow.Author.Tests.{eqb-true, leb-false, not-false}
-use Rattle.model.specs.Walk.{anyBelow}
+use borrow.Author.Tests.{eqb-true, eq-eqb, leb-false, lt-leb, not-false}
+use Rattle.model.specs.Folds.{anyBelow}
 use Rattle.model.specs.Sheet.{Sheet}
-use Rattle.model.specs.SheetLayout.{maxTasks}
+use Rattle.model.specs.SheetLayout.{Layout}
 use Rattle.model.specs.Faults.{badDoor, badStart, badPair, badRule, outOfRange, lacksDoor}
-use Rattle.model.proofs.Tests.{or-left, or-right, none-at, one-fails, between-true}
+use Rattle.model.proofs.Tests.{or-left, or-right, or-neither, none-at, none-below, all-false, one-fails, between-true, between-is}
 
 pub record InRange (S : Sheet) : Type 0 where
   pub task : (d : ℕ) → d < S .doors → S .task d < S .tasks
@@ -19,32 +19,59 @@ pub record InRange (S : Sheet) : Type 0 where
   pub receiver : (i : ℕ) → i < S .pairs → S .receiver i < S .tasks
   pub ruleDoor : (i : ℕ) → i < S .rules → S .ruleDoor i < S .doors
   pub watched : (i : ℕ) → i < S .rules → S .watched i < 2 ^ S .tasks
-  pub leastCount : (i : ℕ) → i < S .rules → (1 ≤ S .leastCount i) × (S .leastCount i ≤ maxTasks)
 
-pub in-range : (S : Sheet) → outOfRange S ≡ false → InRange S
+-- a least count is at least 1 and at most the layout's limit
+abbrev pub LeastCounts : Layout → Sheet → Type 0
+LeastCounts L S = (i : ℕ) → i < S .rules → (1 ≤ S .leastCount i) × (S .leastCount i ≤ L .maxLeastCount)
+
+module _ (L : Layout) (S : Sheet) (h : outOfRange L S ≡ false) where
+  upToPairs : (anyBelow (S .doors) (badDoor S) || anyBelow (S .starts) (badStart S) || anyBelow (S .pairs) (badPair S)) ≡ false
+  unfolding outOfRange
+  upToPairs = or-left (anyBelow (S .doors) (badDoor S) || anyBelow (S .starts) (badStart S) || anyBelow (S .pairs) (badPair S)) _ h
+
+  upToStarts : (anyBelow (S .doors) (badDoor S) || anyBelow (S .starts) (badStart S)) ≡ false
+  upToStarts = or-left (anyBelow (S .doors) (badDoor S) || anyBelow (S .starts) (badStart S)) _ upToPairs
+
+  door : (d : ℕ) → d < S .doors → badDoor S d ≡ false
+  door = none-at (S .doors) (badDoor S) (or-left (anyBelow (S .doors) (badDoor S)) _ upToStarts)
+
+  start : (s : ℕ) → s < S .starts → badStart S s ≡ false
+  start = none-at (S .starts) (badStart S) (or-right (anyBelow (S .doors) (badDoor S)) _ upToStarts)
+
+  pair : (i : ℕ) → i < S .pairs → badPair S i ≡ false
+  pair = none-at (S .pairs) (badPair S) (or-right (anyBelow (S .doors) (badDoor S) || anyBelow (S .starts) (badStart S)) _ upToPairs)
+
+  rule : (i : ℕ) → i < S .rules → badRule L S i ≡ false
+  unfolding outOfRange
+  rule = none-at (S .rules) (badRule L S) (or-right (anyBelow (S .doors) (badDoor S) || anyBelow (S .starts) (badStart S) || anyBelow (S .pairs) (badPair S)) _ h)
+
+  pub in-range : InRange S
+  unfolding badDoor badStart badPair badRule
+  in-range = record {
+    task = λ d l. leb-false _ _ (or-left (leb (S .tasks) (S .task d)) _ (or-left (leb (S .tasks) (S .task d) || leb (S .points) (S .arrive d)) _ (door d l)));
+    arrive = λ d l. leb-false _ _ (or-right (leb (S .tasks) (S .task d)) _ (or-left (leb (S .tasks) (S .task d) || leb (S .points) (S .arrive d)) _ (door d l)));
+    depart = λ d l. leb-false _ _ (or-right (leb (S .tasks) (S .task d) || leb (S .points) (S .arrive d)) _ (door d l));
+    start = λ s l. leb-false _ _ (start s l);
+    sender = λ i l. leb-false _ _ (or-left (leb (S .tasks) (S .sender i)) _ (pair i l));
+    receiver = λ i l. leb-false _ _ (or-right (leb (S .tasks) (S .sender i)) _ (pair i l));
+    ruleDoor = λ i l. leb-false _ _ (or-left (leb (S .doors) (S .ruleDoor i)) _ (or-left (leb (S .doors) (S .ruleDoor i) || leb (2 ^ S .tasks) (S .watched i)) _ (rule i l)));
+    watched = λ i l. leb-false _ _ (or-right (leb (S .doors) (S .ruleDoor i)) _ (or-left (leb (S .doors) (S .ruleDoor i) || leb (2 ^ S .tasks) (S .watched i)) _ (rule i l)));
+  }
+
+  pub least-counts : LeastCounts L S
+  unfolding badRule
+  least-counts i l = between-true 1 (L .maxLeastCount) (S .leastCount i) (not-false _ (or-right (leb (S .doors) (S .ruleDoor i) || leb (2 ^ S .tasks) (S .watched i)) _ (rule i l)))
+
+pub range-passes : (L : Layout) (S : Sheet) → InRange S → LeastCounts L S → outOfRange L S ≡ false
 unfolding outOfRange badDoor badStart badPair badRule
-in-range S h =
-    let r = or-left (anyBelow (S .doors) (badDoor S) || anyBelow (S .starts) (badStart S) || anyBelow (S .pairs) (badPair S)) _ h in
-    let p = or-left (anyBelow (S .doors) (badDoor S) || anyBelow (S .starts) (badStart S)) _ r in
-    let door : (d : ℕ) → d < S .doors → badDoor S d ≡ false = none-at (S .doors) (badDoor S) (or-left (anyBelow (S .doors) (badDoor S)) _ p) in
-    let start : (s : ℕ) → s < S .starts → badStart S s ≡ false = none-at (S .starts) (badStart S) (or-right (anyBelow (S .doors) (badDoor S)) _ p) in
-    let pair : (i : ℕ) → i < S .pairs → badPair S i ≡ false
-    = none-at (S .pairs) (badPair S) (or-right (anyBelow (S .doors) (badDoor S) || anyBelow (S .starts) (badStart S)) _ r) in
-    let rule : (i : ℕ) → i < S .rules → badRule S i ≡ false
-    = none-at (S .rules) (badRule S) (or-right (anyBelow (S .doors) (badDoor S) || anyBelow (S .starts) (badStart S) || anyBelow (S .pairs) (badPair S)) _ h) in
-    record {
-      task = λ d l. leb-false _ _ (or-left (leb (S .tasks) (S .task d)) _ (or-left (leb (S .tasks) (S .task d) || leb (S .points) (S .arrive d)) _ (door d l)));
-      arrive = λ d l. leb-false _ _ (or-right (leb (S .tasks) (S .task d)) _ (or-left (leb (S .tasks) (S .task d) || leb (S .points) (S .arrive d)) _ (door d l)));
-      depart = λ d l. leb-false _ _ (or-right (leb (S .tasks) (S .task d) || leb (S .points) (S .arrive d)) _ (door d l));
-      start = λ s l. leb-false _ _ (start s l);
-      sender = λ i l. leb-false _ _ (or-left (leb (S .tasks) (S .sender i)) _ (pair i l));
-      receiver = λ i l. leb-false _ _ (or-right (leb (S .tasks) (S .sender i)) _ (pair i l));
-      ruleDoor = λ i l. leb-false _ _ (or-left (leb (S .doors) (S .ruleDoor i)) _ (or-left (leb (S .doors) (S .ruleDoor i) || leb (2 ^ S .tasks) (S .watched i)) _ (rule i l)));
-      watched = λ i l. leb-false _ _ (or-right (leb (S .doors) (S .ruleDoor i)) _ (or-left (leb (S .doors) (S .ruleDoor i) || leb (2 ^ S .tasks) (S .watched i)) _ (rule i l)));
-      leastCount = λ i l. between-true 1 maxTasks (S .leastCount i) (not-false _ (or-right (leb (S .doors) (S .ruleDoor i) || leb (2 ^ S .tasks) (S .watched i)) _ (rule i l)));
-    }
+range-passes L S R C = or-neither (or-neither (or-neither
+    (none-below (S .doors) (badDoor S) (λ d l. or-neither (or-neither (lt-leb _ _ (R .task d l)) (lt-leb _ _ (R .arrive d l))) (lt-leb _ _ (R .depart d l))))
+    (none-below (S .starts) (badStart S) (λ s l. lt-leb _ _ (R .start s l))))
+    (none-below (S .pairs) (badPair S) (λ i l. or-neither (lt-leb _ _ (R .sender i l)) (lt-leb _ _ (R .receiver i l)))))
+    (none-below (S .rules) (badRule L S) (λ i l. or-neither (or-neither (lt-leb _ _ (R .ruleDoor i l)) (lt-leb _ _ (R .watched i l)))
+    (ap not (between-is 1 (L .maxLeastCount) (S .leastCount i) (C i l .0) (C i l .1)))))
 
--- a door for a task
+-- every task has a door
 abbrev pub Served : Sheet → Type 0
 Served S = (t : ℕ) → t < S .tasks → (d : ℕ) × (d < S .doors) × (S .task d ≡ t)
 
@@ -53,3 +80,8 @@ unfolding lacksDoor
 served S h t l =
     let r = one-fails (S .doors) (λ d. not (eqb (S .task d) t)) (none-at (S .tasks) (lacksDoor S) h t l) in
     (r .0, r .1, eqb-true _ _ (not-false _ (r .2)))
+
+pub served-passes : (S : Sheet) → Served S → anyBelow (S .tasks) (lacksDoor S) ≡ false
+unfolding lacksDoor
+served-passes S D = none-below (S .tasks) (lacksDoor S) (λ t l. let d = D t l in
+    all-false (S .doors) (λ d. not (eqb (S .task d) t)) (d .0) (d .1) (ap not (eq-eqb (S .task (d .0)) t (d .2))))

@@ -6,7 +6,7 @@ use mathlib.Core.List.{List, [], _∷_, _++_, map, List·Memᴰ}
 use Prim.Native.Nat.{ℕ, zero, suc, _<_}
 use native.Mathlib.Omega.{arith}
 use lib.ListN.{length, take, getD}
-use Rattle.model.specs.Walk.{flatMapBelow, keepIf, listsBelow}
+use Rattle.model.specs.Folds.{flatMapBelow, keepIf, listsBelow}
 use Rattle.model.specs.Plans.{Plan}
 use Rattle.model.proofs.Lists.{All, all-append, all-flat, all-keep, all-imply, all-map, member-all}
 

@@ -8,7 +8,7 @@ use Prim.Native.Nat.{ℕ, zero, suc, _≤_, _<_}
 use native.Mathlib.Omega.{arith}
 use lib.Dec.{ltb}
 use borrow.Author.Tests.{ltb-true, ltb-false}
-use Rattle.model.specs.Walk.{cheaper, firstLeast}
+use Rattle.model.specs.Folds.{cheaper, firstLeast}
 use Rattle.model.proofs.Tests.{eq-or-lt, not-both}
 use Rattle.model.proofs.Choices.{passingBelow, first-append}
 

@@ -7,7 +7,7 @@ use native.Mathlib.Omega.{arith}
 use lib.Dec.{ltb}
 use lib.ListN.{length, getD, length-map}
 use borrow.Author.Tests.{ltb-true, lt-ltb}
-use Rattle.model.specs.Walk.{allIn}
+use Rattle.model.specs.Folds.{allIn}
 use Rattle.model.specs.TaskList.{full}
 use Rattle.model.specs.Sheet.{Sheet}
 use Rattle.model.specs.Orders.{isOrder, keepsEveryPair, isAdmissible}

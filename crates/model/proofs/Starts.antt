@@ -5,12 +5,12 @@ use mathlib.Core.List.{List, [], map}
 use mathlib.Core.Option.{Option, none, some, Option·map, Option·getD}
 use Prim.Native.Nat.{ℕ, _≤_, _<_}
 use borrow.Author.Tests.{lt-ltb}
-use Rattle.model.specs.Walk.{flatMapBelow, listsBelow, keepIf, firstLeast}
+use Rattle.model.specs.Folds.{flatMapBelow, listsBelow, keepIf, firstLeast}
 use Rattle.model.specs.TaskList.{full}
 use Rattle.model.specs.Sheet.{Sheet}
 use Rattle.model.specs.Cost.{cost}
 use Rattle.model.specs.Plans.{isSolution, roundCost, planCost, plans, solutions, cheapest, isCompletion, completions, costToGo, cheapestCompletion}
-use Rattle.model.proofs.Walks.{keep-flat, keep-map, keep-cong, flat-cong}
+use Rattle.model.proofs.Folds.{keep-flat, keep-map, keep-cong, flat-cong}
 use Rattle.model.proofs.Masks.{size-full}
 use Rattle.model.proofs.Lists.{all-flat}
 use Rattle.model.proofs.Choices.{passingBelow, first-some, first-map, first-flat, first-cong, costOf, least-is}

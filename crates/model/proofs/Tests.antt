@@ -7,7 +7,7 @@ use Prim.Native.Nat.{ℕ, zero, suc, _≤_, _<_}
 use native.Mathlib.Omega.{arith}
 use lib.Dec.{eqb, leb}
 use borrow.Author.Tests.{eqb-true, eqb-false, eq-eqb, leb-true, le-leb}
-use Rattle.model.specs.Walk.{allBelow, anyBelow, allIn, sameList, isBetween}
+use Rattle.model.specs.Folds.{allBelow, anyBelow, allIn, sameList, isBetween}
 
 -- a test, with its outcome
 pub tested : (b : Bool) → (b ≡ true) ⊎ (b ≡ false)

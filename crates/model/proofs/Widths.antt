@@ -10,12 +10,12 @@ use lib.Pow.{areBytes}
 use borrow.Author.Tests.{ltb-true, ltb-false}
 use Rattle.model.specs.Sheet.{Sheet}
 use Rattle.model.specs.Bytes.{signed}
-use Rattle.model.specs.SheetLayout.{tasksBody, doorsBody, startsBody, pairsBody, rulesBody, pointsBody, distancesBody, fieldWidths, fieldWidth, fieldAt, decode}
+use Rattle.model.specs.SheetLayout.{tasksBody, doorsBody, startsBody, pairsBody, rulesBody, pointsBody, distancesBody, Layout, kind1, fieldWidth, fieldAt, decodeBy, decode}
 use Rattle.model.proofs.Tests.{tested}
 use Rattle.model.proofs.Numbers.{number-lt}
 use Rattle.model.proofs.Loads.{up, down}
 
--- in two's complement it is less than half of that up
+-- in two's complement a number of k bytes is less than half of 256 to the k up
 pub signed-up : (k n : ℕ) → n < 256 ^ k → 2 * up (signed k n) < 256 ^ k
 unfolding signed
 signed-up k n h = ⊎-elim
@@ -51,28 +51,29 @@ pub record Widths (S : Sheet) : Type 0 where
   pub endCost : (p : ℕ) → S .endCost p < 2 ^ 32
   pub distance : (p q : ℕ) → S .distance p q < 2 ^ 16
 
-field-lt : (b : List ℕ) → areBytes b ≡ true → (i f e : ℕ) → fieldAt b i f e < 256 ^ fieldWidth i f
+-- a field is below 256 to its width
+pub field-lt : (L : Layout) (b : List ℕ) → areBytes b ≡ true → (i f e : ℕ) → fieldAt L b i f e < 256 ^ fieldWidth L i f
 unfolding fieldAt
-field-lt b h i f e = number-lt (fieldWidth i f) b _ h
+field-lt L b h i f e = number-lt (fieldWidth L i f) b _ h
 
--- a sheet of bytes has fields of these widths
+-- a sheet of kind 1 has fields of these widths
 pub widths : (b : List ℕ) → areBytes b ≡ true → Widths (decode b)
-unfolding decode fieldWidth fieldWidths
+unfolding decode decodeBy kind1 fieldWidth
 widths b h = record {
   endLoad = number-lt 2 b 2 h;
-  change-up = λ j. omega (arith, signed-up 2 (fieldAt b tasksBody 0 j) (field-lt b h tasksBody 0 j));
-  change-down = λ j. omega (arith, signed-down 2 (fieldAt b tasksBody 0 j) (field-lt b h tasksBody 0 j));
-  task = field-lt b h doorsBody 0;
-  arrive = field-lt b h doorsBody 1;
-  depart = field-lt b h doorsBody 2;
-  work = field-lt b h doorsBody 3;
-  startPoint = field-lt b h startsBody 0;
-  sender = field-lt b h pairsBody 0;
-  receiver = field-lt b h pairsBody 1;
-  ruleDoor = field-lt b h rulesBody 0;
-  watched = field-lt b h rulesBody 1;
-  leastCount = field-lt b h rulesBody 2;
-  charge = field-lt b h rulesBody 3;
-  endCost = field-lt b h pointsBody 0;
-  distance = λ p q. field-lt b h distancesBody 0 _;
+  change-up = λ j. omega (arith, signed-up 2 (fieldAt kind1 b tasksBody 0 j) (field-lt kind1 b h tasksBody 0 j));
+  change-down = λ j. omega (arith, signed-down 2 (fieldAt kind1 b tasksBody 0 j) (field-lt kind1 b h tasksBody 0 j));
+  task = field-lt kind1 b h doorsBody 0;
+  arrive = field-lt kind1 b h doorsBody 1;
+  depart = field-lt kind1 b h doorsBody 2;
+  work = field-lt kind1 b h doorsBody 3;
+  startPoint = field-lt kind1 b h startsBody 0;
+  sender = field-lt kind1 b h pairsBody 0;
+  receiver = field-lt kind1 b h pairsBody 1;
+  ruleDoor = field-lt kind1 b h rulesBody 0;
+  watched = field-lt kind1 b h rulesBody 1;
+  leastCount = field-lt kind1 b h rulesBody 2;
+  charge = field-lt kind1 b h rulesBody 3;
+  endCost = field-lt kind1 b h pointsBody 0;
+  distance = λ p q. field-lt kind1 b h distancesBody 0 _;
 }

@@ -4,7 +4,7 @@ use mathlib.Core.List.{List, [], _∷_, map}
 use Prim.Native.Nat.{ℕ, zero, suc, _+_, _*_}
 use lib.Dec.{eqb, leb}
 use lib.IntN.{ℤ, pos, _+ℤ_, natAbs}
-use Rattle.model.specs.Walk.{sumBelow}
+use Rattle.model.specs.Folds.{sumBelow}
 use Rattle.model.specs.TaskList.{member, watchedIn, maskOf}
 use Rattle.model.specs.Sheet.{Sheet}
 

@@ -4,7 +4,7 @@ use mathlib.Core.List.{List, [], _∷_, _++_}
 use Prim.Native.Nat.{ℕ, _+_, _*_}
 use lib.Dec.{eqb}
 use lib.ListN.{length}
-use Rattle.model.specs.Walk.{sameList}
+use Rattle.model.specs.Folds.{sameList}
 use Rattle.model.specs.Plans.{roundCost}
 use Rattle.model.specs.Answer.{Answer, refused, accepted}
 use Rattle.model.specs.SheetLayout.{decode}

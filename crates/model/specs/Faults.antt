@@ -1,4 +1,4 @@
--- The sheet's own faults, 10 to 17, and reading a sheet (01, Numbers a call can answer with). Assumes nothing.
+-- The sheet's own faults, 10 to 17, and reading a sheet (01, Numbers a call can answer with, which every definition here is from). Assumes nothing.
 use mathlib.Core.Bool.{Bool, cond, not, _||_}
 use mathlib.Core.List.{List}
 use Prim.Native.Nat.{ℕ, zero, suc, _^_}
@@ -6,12 +6,12 @@ use lib.Dec.{eqb, ltb, leb}
 use lib.ListN.{length, getD}
 use lib.IntN.{ℤ, pos, _+ℤ_}
 use lib.Signed.{ltZ}
-use Rattle.model.specs.Walk.{allBelow, anyBelow, isBetween}
+use Rattle.model.specs.Folds.{allBelow, anyBelow, isBetween}
 use Rattle.model.specs.Sheet.{Sheet}
 use Rattle.model.specs.Orders.{noOrder}
 use Rattle.model.specs.Bytes.{numberAt}
 use Rattle.model.specs.Answer.{Answer, accepted, refuseIf}
-use Rattle.model.specs.SheetLayout.{sheetKind, maxTasks, pointsBody, bodies, fewest, most, lineAt, lineBody, lineOffset, entries, bodyAt, decode}
+use Rattle.model.specs.SheetLayout.{Layout, pointsBody, bodies, lineAt, lineBody, lineOffset, entries, bodyAt, kind1, decode}
 
 -- ---- 10 to 13: of the bytes
 
@@ -19,21 +19,21 @@ use Rattle.model.specs.SheetLayout.{sheetKind, maxTasks, pointsBody, bod
 unfoldable pub tooShort : List ℕ → Bool
 tooShort b = ltb (length b) (lineAt bodies)
 
--- 11: the kind is not 1
-unfoldable pub wrongKind : List ℕ → Bool
-wrongKind b = not (eqb (numberAt 2 b 0) sheetKind)
+-- 11: the kind is not that of the layout
+unfoldable pub wrongKind : Layout → List ℕ → Bool
+wrongKind L b = not (eqb (numberAt 2 b 0) (L .kind))
 
 -- 12: the number of entries of body i is outside the table
-unfoldable pub wrongEntries : List ℕ → ℕ → Bool
-wrongEntries b i = not (isBetween (getD (fewest (entries b pointsBody)) i 0) (getD (most (entries b pointsBody)) i 0) (entries b i))
+unfoldable pub wrongEntries : Layout → List ℕ → ℕ → Bool
+wrongEntries L b i = not (isBetween (getD (L .fewest (entries b pointsBody)) i 0) (getD (L .most (entries b pointsBody)) i 0) (entries b i))
 
 -- 13: contents line i has a wrong body number or offset
-unfoldable pub wrongLine : List ℕ → ℕ → Bool
-wrongLine b i = not (eqb (lineBody b i) (suc i)) || not (eqb (lineOffset b i) (bodyAt b i))
+unfoldable pub wrongLine : Layout → List ℕ → ℕ → Bool
+wrongLine L b i = not (eqb (lineBody b i) (suc i)) || not (eqb (lineOffset b i) (bodyAt L b i))
 
 -- 13: the sheet's length is not the end of its last body
-unfoldable pub wrongLength : List ℕ → Bool
-wrongLength b = not (eqb (length b) (bodyAt b bodies))
+unfoldable pub wrongLength : Layout → List ℕ → Bool
+wrongLength L b = not (eqb (length b) (bodyAt L b bodies))
 
 -- ---- 14 to 17: of what the sheet says
 
@@ -50,12 +50,12 @@ unfoldable pub badPair : Sheet → ℕ → Bool
 badPair S i = leb (S .tasks) (S .sender i) || leb (S .tasks) (S .receiver i)
 
 -- 14, of access rule i: its door or its least count is out of range, or it has a watched bit at N or above, which makes the list 2 ^ N or more
-unfoldable pub badRule : Sheet → ℕ → Bool
-badRule S i = leb (S .doors) (S .ruleDoor i) || leb (2 ^ S .tasks) (S .watched i) || not (isBetween 1 maxTasks (S .leastCount i))
+unfoldable pub badRule : Layout → Sheet → ℕ → Bool
+badRule L S i = leb (S .doors) (S .ruleDoor i) || leb (2 ^ S .tasks) (S .watched i) || not (isBetween 1 (L .maxLeastCount) (S .leastCount i))
 
 -- 14: a task, point, door or least count is out of range, or a watched bit at N or above
-unfoldable pub outOfRange : Sheet → Bool
-outOfRange S = anyBelow (S .doors) (badDoor S) || anyBelow (S .starts) (badStart S) || anyBelow (S .pairs) (badPair S) || anyBelow (S .rules) (badRule S)
+unfoldable pub outOfRange : Layout → Sheet → Bool
+outOfRange L S = anyBelow (S .doors) (badDoor S) || anyBelow (S .starts) (badStart S) || anyBelow (S .pairs) (badPair S) || anyBelow (S .rules) (badRule L S)
 
 -- 15: task t has no door
 unfoldable pub lacksDoor : Sheet → ℕ → Bool
@@ -67,21 +67,21 @@ lightestBelow S zero = pos (S .endLoad)
 lightestBelow S (suc n) = lightestBelow S n +ℤ cond (ltZ (S .change n) (pos 0)) (S .change n) (pos 0)
 
 -- 16: the end load plus all negative changes is below zero
-unfoldable pub loadBelowZero : Sheet → Bool
-loadBelowZero S = ltZ (lightestBelow S (S .tasks)) (pos 0)
+unfoldable pub tooLight : Sheet → Bool
+tooLight S = ltZ (lightestBelow S (S .tasks)) (pos 0)
 
 -- ---- the answer: the first fault that applies
 
--- as told, unless the sheet has a fault: planning and judging read first
+-- the answer a, unless the sheet has a fault; planning and judging read first
 unfoldable pub unlessFault : {A : Type 0} → List ℕ → Answer A → Answer A
 unlessFault b a =
     refuseIf (tooShort b) 10
-    (refuseIf (wrongKind b) 11
-    (refuseIf (anyBelow bodies (wrongEntries b)) 12
-    (refuseIf (anyBelow bodies (wrongLine b) || wrongLength b) 13
-    (refuseIf (outOfRange (decode b)) 14
+    (refuseIf (wrongKind kind1 b) 11
+    (refuseIf (anyBelow bodies (wrongEntries kind1 b)) 12
+    (refuseIf (anyBelow bodies (wrongLine kind1 b) || wrongLength kind1 b) 13
+    (refuseIf (outOfRange kind1 (decode b)) 14
     (refuseIf (anyBelow (decode b .tasks) (lacksDoor (decode b))) 15
-    (refuseIf (loadBelowZero (decode b)) 16
+    (refuseIf (tooLight (decode b)) 16
     (refuseIf (noOrder (decode b)) 17
     a)))))))
 

@@ -1,4 +1,4 @@
-pub mod Walk
+pub mod Folds
 pub mod TaskList
 pub mod Sheet
 pub mod Orders

@@ -3,7 +3,7 @@ use mathlib.Core.Bool.{Bool, cond, not, _&&_, _||_}
 use mathlib.Core.List.{List}
 use Prim.Native.Nat.{ℕ, zero, suc}
 use lib.Dec.{eqb, ltb}
-use Rattle.model.specs.Walk.{allBelow, allIn, keepIf, isEmpty, countOf, indexOf, listsBelow}
+use Rattle.model.specs.Folds.{allBelow, allIn, keepIf, isEmpty, countOf, indexOf, listsBelow}
 use Rattle.model.specs.TaskList.{bit, member, without, full, size}
 use Rattle.model.specs.Sheet.{Sheet}
 
@@ -35,10 +35,11 @@ isAdmissible S ts = isOrder (S .tasks) (full (S .tasks)) ts && keepsEveryPair S 
 unfoldable pub isOrderWithin : Sheet → ℕ → List ℕ → Bool
 isOrderWithin S K ts = isOrder (S .tasks) K ts && keepsPairsWithin S K ts
 
--- all of the first kind, and all of the second, ordered by the first task in which two differ (000, the set A of (2.7))
+-- all orders of the full list that keep every pair, ranked by the first task in which two differ (000, the set A of (2.7))
 unfoldable pub admissibleOrders : Sheet → List (List ℕ)
 admissibleOrders S = keepIf (isAdmissible S) (listsBelow (S .tasks) (S .tasks))
 
+-- all orders of K that keep the pairs within K, in the same rank (01, Cost of a round: the cost to finish)
 unfoldable pub ordersWithin : Sheet → ℕ → List (List ℕ)
 ordersWithin S K = keepIf (isOrderWithin S K) (listsBelow (S .tasks) (size (S .tasks) K))
 

@@ -4,10 +4,14 @@ use mathlib.Core.List.{List, _++_}
 use Prim.Native.Nat.{ℕ, _+_, _*_}
 use lib.Dec.{eqb, ltb}
 use lib.ListN.{length, getD, take}
-use Rattle.model.specs.Walk.{flatMapBelow, mapBelow, sameList, isBetween}
+use Rattle.model.specs.Folds.{flatMapBelow, mapBelow, sameList, isBetween}
 use Rattle.model.specs.Bytes.{numberAt, bytesOf, overwrite}
 use Rattle.model.specs.Answer.{Answer, refused, accepted, refuseIf}
-use Rattle.model.specs.SheetLayout.{maxTasks, lineAt}
+use Rattle.model.specs.SheetLayout.{lineAt}
+
+-- a plan has room for this many doors
+abbrev pub maxPlanDoors : ℕ
+maxPlanDoors = 12
 
 -- kind 2, then zero
 abbrev pub planKind : ℕ
@@ -29,7 +33,7 @@ planLength n = planCostAt n + 8
 
 -- ---- writing
 
--- contents line: body number, byte offset, number of entries
+-- a contents line: body number, byte offset, number of entries
 unfoldable pub lineBytes : ℕ → ℕ → ℕ → List ℕ
 lineBytes number offset count = bytesOf 2 number ++ bytesOf 2 offset ++ bytesOf 2 count
 
@@ -43,7 +47,7 @@ planBytes n start doors cost = planHead n ++ bytesOf 2 start ++ flatMapBelow n (
 
 -- 12: the number of tasks is outside 1 to 12
 unfoldable pub wrongTasks : ℕ → Bool
-wrongTasks n = not (isBetween 1 maxTasks n)
+wrongTasks n = not (isBetween 1 maxPlanDoors n)
 
 -- what writing answers, the length, and the whole buffer afterwards
 pub record PlanWritten : Type 0 where
@@ -87,7 +91,7 @@ costIn n q = numberAt 8 q (planCostAt n)
 
 -- n doors in an array of twelve; those beyond n are 0
 unfoldable pub doorArray : ℕ → (ℕ → ℕ) → List ℕ
-doorArray n door = mapBelow maxTasks (λ i. cond (ltb i n) (door i) 0)
+doorArray n door = mapBelow maxPlanDoors (λ i. cond (ltb i n) (door i) 0)
 
 -- what reading answers: start, doors and cost
 pub record PlanRead : Type 0 where

@@ -5,7 +5,7 @@ use mathlib.Core.Option.{Option, none, some}
 use Prim.Native.Nat.{ℕ, _*_, _/_, _%_, _^_}
 use lib.Dec.{ltb}
 use lib.ListN.{length, getD}
-use Rattle.model.specs.Walk.{mapBelow}
+use Rattle.model.specs.Folds.{mapBelow}
 use Rattle.model.specs.Sheet.{Sheet}
 use Rattle.model.specs.Orders.{pairsAllow}
 use Rattle.model.specs.Plans.{Plan, planCost, cheapest, costToGo}

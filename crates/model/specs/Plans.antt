@@ -5,7 +5,7 @@ use mathlib.Core.List.{List, map}
 use mathlib.Core.Option.{Option}
 use Prim.Native.Nat.{ℕ}
 use lib.Dec.{ltb}
-use Rattle.model.specs.Walk.{flatMapBelow, listsBelow, allIn, keepIf, firstLeast, least}
+use Rattle.model.specs.Folds.{flatMapBelow, listsBelow, allIn, keepIf, firstLeast, least}
 use Rattle.model.specs.TaskList.{size}
 use Rattle.model.specs.Sheet.{Sheet}
 use Rattle.model.specs.Orders.{isAdmissible, isOrderWithin}
@@ -35,10 +35,11 @@ roundCost S s ds = cost S (S .startPoint s) ds
 unfoldable pub planCost : Sheet → Plan → ℕ
 planCost S x = roundCost S (x .start) (x .doors)
 
--- all plans with a door for each task, and those that are solutions, ranked by start number, then door d1, d2 and on (01, Working; 000, (2.10))
+-- all plans with as many doors as there are tasks, ranked by start number, then door d1, d2 and on (01, Working)
 unfoldable pub plans : Sheet → List Plan
 plans S = flatMapBelow (S .starts) (λ s. map (λ (ds : List ℕ). record { start = s; doors = ds }) (listsBelow (S .doors) (S .tasks)))
 
+-- all solutions, in the same rank (01, Working; 000, (2.10))
 unfoldable pub solutions : Sheet → List Plan
 solutions S = keepIf (λ x. isSolution S (x .start) (x .doors)) (plans S)
 

@@ -1,4 +1,4 @@
--- The output of the print program, from the bytes of a sheet (01, Sheet A and its neighbours). Assumes nothing.
+-- The output of the print program, from the bytes of a sheet (01, Sheet A and its neighbours, which every definition here is from). Assumes nothing.
 use mathlib.Core.Bool.{true, false}
 use mathlib.Core.List.{List, [], _∷_, _++_, map}
 use Prim.Native.Nat.{ℕ, zero, suc, _+_, _/_, _%_}
@@ -10,8 +10,8 @@ use Rattle.model.specs.TaskList.{maskOf}
 use Rattle.model.specs.Sheet.{Sheet}
 use Rattle.model.specs.Plans.{Plan, planCost}
 use Rattle.model.specs.Answer.{Answer, refused, accepted}
-use Rattle.model.specs.SheetLayout.{maxTasks, decode}
-use Rattle.model.specs.PlanLayout.{planLength}
+use Rattle.model.specs.SheetLayout.{maxPoints, kind1, sheetLength, decode}
+use Rattle.model.specs.PlanLayout.{maxPlanDoors, planLength}
 use Rattle.model.specs.Planning.{planFor}
 
 -- ---- text
@@ -60,16 +60,17 @@ answerLines S (accepted x) = planLines S x
 
 -- ---- the program
 
--- it reads at most this many bytes, one more than the longest sheet has, and plans with this many cells and room for any plan
-abbrev pub printInput : ℕ
-printInput = 9639
+-- it reads at most one byte more than the longest sheet has
+unfoldable pub printInput : ℕ
+printInput = suc (sheetLength kind1 (kind1 .most maxPoints))
 
+-- it plans with this many cells, and with room for any plan
 abbrev pub printCells : ℕ
 printCells = 4096
 
 -- what is printed for the sheet b, and for what stands on standard input
 unfoldable pub printedFor : List ℕ → List ℕ
-printedFor b = answerLines (decode b) (planFor b printCells (planLength maxTasks))
+printedFor b = answerLines (decode b) (planFor b printCells (planLength maxPlanDoors))
 
 unfoldable pub printed : List ℕ → List ℕ
 printed input = printedFor (take printInput input)

@@ -4,7 +4,7 @@ use mathlib.Core.Bool.{Bool, _&&_}
 use mathlib.Core.List.{List, [], _∷_}
 use Prim.Native.Nat.{ℕ, _+_, _-_, _*_, _/_, _%_, _^_}
 use lib.Dec.{eqb}
-use Rattle.model.specs.Walk.{countBelow}
+use Rattle.model.specs.Folds.{countBelow}
 
 -- bit j of K: 1 where task j is in K, and 0 where it is not (01, Layout of a task sheet)
 unfoldable pub bit : ℕ → ℕ → ℕ

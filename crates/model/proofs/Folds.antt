@@ -1,4 +1,4 @@
--- Laws of the walks over numbers and lists. Assumes nothing.
+-- Laws of the folds over numbers and lists. Assumes nothing.
 use mathlib.Core.Path.{_≡_, refl, ap, ap₂, _∙_, subst}
 use mathlib.Core.Logic.{_≢_, ⊎-elim}
 use mathlib.Core.Bool.{Bool, true, false, cond}
@@ -7,7 +7,7 @@ use Prim.Native.Nat.{ℕ, zero, suc, _+_, _*_, _≤_, _<_}
 use native.Mathlib.Omega.{arith}
 use lib.ListN.{length, getD, length-append, List·getD-append}
 use lib.Seq.{getD-at}
-use Rattle.model.specs.Walk.{sumBelow, flatMapBelow, mapBelow, keepIf, isEmpty}
+use Rattle.model.specs.Folds.{sumBelow, flatMapBelow, mapBelow, keepIf, isEmpty}
 use Rattle.model.proofs.Tests.{eq-or-lt}
 
 -- ---- sums

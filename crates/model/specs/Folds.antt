@@ -1,4 +1,4 @@
--- Walks over the numbers 0, 1, .. below n, and over lists: tests, sums and choices that compute. Assumes nothing.
+-- Folds over the numbers 0, 1, .. below n, and over lists: tests, sums and choices that compute. Assumes nothing.
 use mathlib.Core.Bool.{Bool, true, false, cond, _&&_, _||_}
 use mathlib.Core.List.{List, [], _∷_, _++_, map}
 use mathlib.Core.Option.{Option, none, some}
@@ -58,6 +58,7 @@ module _ {A : Type 0} where
   keepIf test [] = []
   keepIf test (x ∷ xs) = cond (test x) (x ∷ keepIf test xs) (keepIf test xs)
 
+  -- the list has no element
   abbrev pub isEmpty : List A → Bool
   isEmpty [] = true
   isEmpty (x ∷ xs) = false

@@ -8,19 +8,19 @@ use lib.Dec.{eqb, ltb, leb, lit≤}
 use lib.ListN.{length, length-map}
 use lib.Pow.{areBytes}
 use borrow.Author.Tests.{eqb-true, eq-eqb, ltb-true, ltb-false, lt-ltb, le-ltb, lt-leb, leb-false, not-false}
-use Rattle.model.specs.Walk.{allIn, countOf}
+use Rattle.model.specs.Folds.{allIn, countOf}
 use Rattle.model.specs.TaskList.{full}
 use Rattle.model.specs.Sheet.{Sheet}
 use Rattle.model.specs.Orders.{keepsEveryPair}
 use Rattle.model.specs.Plans.{inSheet, isSolution, roundCost}
 use Rattle.model.specs.Answer.{Answer, refused, accepted, refuseIf}
-use Rattle.model.specs.SheetLayout.{decode}
+use Rattle.model.specs.SheetLayout.{kind1, decode}
 use Rattle.model.specs.PlanLayout.{planBytes, illFormed, startIn, doorsIn, costIn}
-use Rattle.model.specs.Validating.{notInSheet, doneTwice, judged, validate}
+use Rattle.model.specs.Validating.{notInSheet, doneTwice, validateFor, validate}
 use Rattle.model.proofs.Tests.{and-left, and-right, and-both, or-left, or-right, or-neither, none-at, none-below}
 use Rattle.model.proofs.Counting.{order-of-all, order-once}
 use Rattle.model.proofs.Solutions.{Solution, solution, is-solution, solution-length, solution-fits}
-use Rattle.model.proofs.Limits.{CountsWithin, counts-within}
+use Rattle.model.proofs.Limits.{CountsWithin, counts-within, entries-within}
 use Rattle.model.proofs.Ranges.{InRange, in-range}
 use Rattle.model.proofs.Reading.{refused-number, accepted-value, refused≢accepted, passed, Reads, reads-then}
 use Rattle.model.proofs.PlanBytes.{length-doors, plan-well-formed, start-again, doors-again, cost-again, well-formed-is}
@@ -58,15 +58,15 @@ unfolding doneTwice
 done-once S s ds h = none-below (S .tasks) _ (λ t l. le-ltb 1 (countOf t (map (S .task) ds)) (order-once (S .tasks) (full (S .tasks)) (map (S .task) ds) (h .order) t))
 
 -- what is accepted is a solution with its cost, and such a one is accepted
-pub judged-iff : (S : Sheet) → InRange S → (s : ℕ) (ds : List ℕ) (c c' : ℕ) → length ds ≡ S .tasks
-    → (judged S s ds c ≡ accepted c') ↔ ((isSolution S s ds ≡ true) × (c ≡ roundCost S s ds) × (c' ≡ c))
-unfolding judged
-judged-iff S R s ds c c' e = (there, back)
+pub validate-for-iff : (S : Sheet) → InRange S → (s : ℕ) (ds : List ℕ) (c c' : ℕ) → length ds ≡ S .tasks
+    → (validateFor S s ds c ≡ accepted c') ↔ ((isSolution S s ds ≡ true) × (c ≡ roundCost S s ds) × (c' ≡ c))
+unfolding validateFor
+validate-for-iff S R s ds c c' e = (there, back)
   where
     ts : List ℕ
     ts = map (S .task) ds
 
-    there : judged S s ds c ≡ accepted c' → (isSolution S s ds ≡ true) × (c ≡ roundCost S s ds) × (c' ≡ c)
+    there : validateFor S s ds c ≡ accepted c' → (isSolution S s ds ≡ true) × (c ≡ roundCost S s ds) × (c' ≡ c)
     there a =
         let p₁ = passed (notInSheet S s ds) 31 _ c' a in
         let p₂ = passed (doneTwice S ts) 32 _ c' (p₁ .1) in
@@ -74,19 +74,19 @@ judged-iff S R s ds c c' e = (there, back)
         let p₄ = passed (not (eqb c (roundCost S s ds))) 34 _ c' (p₃ .1) in
         (is-solution S s ds (passes-judge S R s ds e (p₁ .0) (p₂ .0) (not-false _ (p₃ .0))), eqb-true _ _ (not-false _ (p₄ .0)), sym (accepted-value (p₄ .1)))
 
-    back : (isSolution S s ds ≡ true) × (c ≡ roundCost S s ds) × (c' ≡ c) → judged S s ds c ≡ accepted c'
+    back : (isSolution S s ds ≡ true) × (c ≡ roundCost S s ds) × (c' ≡ c) → validateFor S s ds c ≡ accepted c'
     back h =
         let x : Solution S s ds = solution S s ds (h .0) in
         rw (in-sheet S s ds x, done-once S s ds x, x .pairs, eq-eqb _ _ (h .1), h .2)
 
 -- ---- the plan's bytes
 
--- the bytes are judged by the start, doors and cost that they were written for
-plan-judged : (S : Sheet) → CountsWithin S → (s : ℕ) (ds : List ℕ) (c : ℕ) → Solution S s ds → c < 2 ^ 64
+-- the bytes are validateFor by the start, doors and cost that they were written for
+plan-validated : (S : Sheet) → CountsWithin S → (s : ℕ) (ds : List ℕ) (c : ℕ) → Solution S s ds → c < 2 ^ 64
     → refuseIf (illFormed (S .tasks) (planBytes (S .tasks) s ds c)) 30
-    (judged S (startIn (planBytes (S .tasks) s ds c)) (doorsIn (S .tasks) (planBytes (S .tasks) s ds c)) (costIn (S .tasks) (planBytes (S .tasks) s ds c)))
-    ≡ judged S s ds c
-plan-judged S W s ds c x l =
+    (validateFor S (startIn (planBytes (S .tasks) s ds c)) (doorsIn (S .tasks) (planBytes (S .tasks) s ds c)) (costIn (S .tasks) (planBytes (S .tasks) s ds c)))
+    ≡ validateFor S s ds c
+plan-validated S W s ds c x l =
     let n : ℕ = S .tasks in
     let small = solution-fits S W s ds x in
     rw (plan-well-formed n s ds c, start-again n s ds c (small .0), doors-again n s ds c (solution-length S s ds x) (small .1), cost-again n s ds c l)
@@ -101,20 +101,20 @@ validate-iff b q c bytes reads small = (there, back)
     S = decode b
 
     R : InRange S
-    R = in-range S (reads .passes .ranges)
+    R = in-range kind1 S (reads .passed-tests .ranges)
 
     there : validate b q ≡ accepted c → (s : ℕ) × (ds : List ℕ) × (isSolution S s ds ≡ true) × (c ≡ roundCost S s ds) × (q ≡ planBytes (S .tasks) s ds c)
     there e =
         let p = passed (illFormed (S .tasks) q) 30 _ c (sym (reads-then b _ reads) ∙ e) in
-        let j = judged-iff S R (startIn q) (doorsIn (S .tasks) q) (costIn (S .tasks) q) c (length-doors (S .tasks) q) .0 (p .1) in
+        let j = validate-for-iff S R (startIn q) (doorsIn (S .tasks) q) (costIn (S .tasks) q) c (length-doors (S .tasks) q) .0 (p .1) in
         (startIn q, doorsIn (S .tasks) q, j .0, j .2 ∙ j .1, rw (j .2) (sym (well-formed-is (S .tasks) q bytes (p .0))))
 
     back : (s : ℕ) × (ds : List ℕ) × (isSolution S s ds ≡ true) × (c ≡ roundCost S s ds) × (q ≡ planBytes (S .tasks) s ds c) → validate b q ≡ accepted c
     back (s, ds, solves, costs, e) =
         let x : Solution S s ds = solution S s ds solves in
         reads-then b _ reads
-        ∙ rw e (plan-judged S (counts-within b (reads .passes .counts)) s ds c x (rw costs (small s ds solves)))
-        ∙ judged-iff S R s ds c c (solution-length S s ds x) .1 (solves, costs, refl)
+        ∙ rw e (plan-validated S (counts-within b (entries-within kind1 b (reads .passed-tests .counts))) s ds c x (rw costs (small s ds solves)))
+        ∙ validate-for-iff S R s ds c c (solution-length S s ds x) .1 (solves, costs, refl)
 
 -- ---- what it refuses
 
@@ -126,9 +126,9 @@ module _ (r : ℕ) where
   next true n a lo hi k e = rw (sym (refused-number e)) (lo, hi)
   next false n a lo hi k e = k e
 
-  judged-refusals : (S : Sheet) (s : ℕ) (ds : List ℕ) (c : ℕ) → judged S s ds c ≡ refused r → Judge
-  unfolding judged
-  judged-refusals S s ds c =
+  for-refusals : (S : Sheet) (s : ℕ) (ds : List ℕ) (c : ℕ) → validateFor S s ds c ≡ refused r → Judge
+  unfolding validateFor
+  for-refusals S s ds c =
       next (notInSheet S s ds) 31 _ (lit≤ tt) (lit≤ tt)
       (next (doneTwice S (map (S .task) ds)) 32 _ (lit≤ tt) (lit≤ tt)
       (next (not (keepsEveryPair S (map (S .task) ds))) 33 _ (lit≤ tt) (lit≤ tt)
@@ -139,4 +139,4 @@ module _ (r : ℕ) where
 pub judge-refusals : (b q : List ℕ) (r : ℕ) → Reads b → validate b q ≡ refused r → (30 ≤ r) × (r ≤ 34)
 unfolding validate
 judge-refusals b q r h e =
-    next r (illFormed (decode b .tasks) q) 30 _ (lit≤ tt) (lit≤ tt) (judged-refusals r (decode b) _ _ _) (sym (reads-then b _ h) ∙ e)
+    next r (illFormed (decode b .tasks) q) 30 _ (lit≤ tt) (lit≤ tt) (for-refusals r (decode b) _ _ _) (sym (reads-then b _ h) ∙ e)
