@@ -1,6 +1,6 @@
--- The starred lines of document 01 hold of the definitions, by computing. Assumes nothing.
+-- The starred lines of document 01, and further examples, hold of the definitions, by computing. Assumes nothing.
 use lib.Dec.{T}
-use Rattle.model.specs.Examples.{checkStarred}
+use Rattle.model.specs.Examples.{checkStarred, checkFurther}
 use Rattle.model.specs.Folds.{countBelow, isBetween, mapBelow}
 use Rattle.model.specs.TaskList.{bit, with, without, full, size, watchedIn}
 use Rattle.model.specs.Orders.{isOrder, keepsPair, keepsEveryPair, pairWithin, keepsPairsWithin, isAdmissible, isOrderWithin, admissibleOrders, noOrder, essential, pairsAllow}
@@ -14,8 +14,8 @@ use Rattle.model.specs.Validating.{notInSheet, doneTwice, validateFor, v
 use Rattle.model.specs.Planning.{cellsNeeded, planFor, cellAfter, cellsAfter, plan}
 use Rattle.model.specs.Printing.{decimal, refusalLine, stepLine, planLines, printInput, printedFor, printed}
 
-pub starred : T checkStarred
-unfolding checkStarred
+examples : T checkStarred × T checkFurther
+unfolding checkStarred checkFurther
     countBelow isBetween mapBelow
     bit with without full size watchedIn
     isOrder keepsPair keepsEveryPair pairWithin keepsPairsWithin isAdmissible isOrderWithin admissibleOrders noOrder essential pairsAllow
@@ -28,4 +28,12 @@ unfolding checkStarred
     notInSheet doneTwice validateFor validate
     cellsNeeded planFor cellAfter cellsAfter plan
     decimal refusalLine stepLine planLines printInput printedFor printed
-starred = tt
+examples = (tt, tt)
+
+-- the starred lines, all of them
+pub starred : T checkStarred
+starred = examples .0
+
+-- room, short sheets, refusals in print, and a sheet of our own
+pub further : T checkFurther
+further = examples .1

@@ -3,17 +3,17 @@ use mathlib.Core.Path.{_≡_, refl, sym, ap, _∙_}
 use mathlib.Core.Logic.{_≢_, _↔_, ⊎-elim}
 use mathlib.Core.Bool.{Bool, true, false, not, _&&_, _||_, false≢true}
 use mathlib.Core.List.{List, [], _∷_, map, List·Memᴰ, List·Memᴰ·head, List·Memᴰ·tail, List·Memᴰ·not-nil, List·Memᴰ·cases-cons}
-use Prim.Native.Nat.{ℕ, _^_, _<_}
+use Prim.Native.Nat.{ℕ, _^_, _≤_, _<_}
 use native.Mathlib.Omega.{arith}
 use lib.Dec.{eqb, ltb}
-use borrow.Author.Tests.{eqb-true, eqb-false, ne-eqb, ltb-true, lt-ltb, not-true}
+use borrow.Author.Tests.{eqb-true, eqb-false, ne-eqb, ltb-true, ltb-false, lt-ltb, not-true}
 use Rattle.model.specs.Folds.{allBelow, countOf, indexOf}
 use Rattle.model.specs.TaskList.{bit, member, with, full, maskOf}
 use Rattle.model.specs.Sheet.{Sheet}
 use Rattle.model.specs.Orders.{isOrder, keepsPair, keepsEveryPair, essential, pairWithin, keepsPairsWithin, isOrderWithin}
 use Rattle.model.specs.Plans.{inSheet, isSolution, isCompletion}
 use Rattle.model.proofs.Tests.{tested, and-left, and-right, and-both, all-at, all-below}
-use Rattle.model.proofs.Masks.{bit-none, member-bit, bit-member, with-same, with-other, full-lt}
+use Rattle.model.proofs.Masks.{bit-none, member-bit, bit-member, with-same, with-other, bit-above, full-bit, full-lt}
 use Rattle.model.proofs.Lists.{All, all-in, in-all, all-imply}
 use Rattle.model.proofs.Counting.{order-means}
 use Rattle.model.proofs.Solutions.{Solution, solution, is-solution}
@@ -81,27 +81,41 @@ doors-mean S ds = (
 pub record Solves (S : Sheet) (s : ℕ) (ds : List ℕ) : Type 0 where
   pub start : s < S .starts
   pub doors : All (λ d. d < S .doors) ds
-  pub once : (t : ℕ) → countOf t (map (S .task) ds) ≡ bit (full (S .tasks)) t
+  pub once : (t : ℕ) → t < S .tasks → countOf t (map (S .task) ds) ≡ 1
+  pub nothing-else : (t : ℕ) → S .tasks ≤ t → countOf t (map (S .task) ds) ≡ 0
   pub pairs : (i : ℕ) → i < S .pairs → indexOf (S .sender i) (map (S .task) ds) < indexOf (S .receiver i) (map (S .task) ds)
 
 pub solution-means : (S : Sheet) (s : ℕ) (ds : List ℕ) → (isSolution S s ds ≡ true) ↔ Solves S s ds
 unfolding inSheet keepsEveryPair keepsPair
-solution-means S s ds = (
-  λ (h : isSolution S s ds ≡ true).
-      let x : Solution S s ds = solution S s ds h in
-      record {
-        start = x .start;
-        doors = doors-mean S ds .0 (x .doors);
-        once = order-means (S .tasks) (full (S .tasks)) (map (S .task) ds) (full-lt (S .tasks)) .0 (x .order);
-        pairs = λ i l. ltb-true _ _ (all-at (S .pairs) (keepsPair S (map (S .task) ds)) (x .pairs) i l);
-      },
-  λ (h : Solves S s ds). is-solution S s ds (record {
-    start = h .start;
-    doors = doors-mean S ds .1 (h .doors);
-    order = order-means (S .tasks) (full (S .tasks)) (map (S .task) ds) (full-lt (S .tasks)) .1 (h .once);
-    pairs = all-below (S .pairs) (keepsPair S (map (S .task) ds)) (λ i l. lt-ltb _ _ (h .pairs i l));
-  }),
-)
+solution-means S s ds = (there, back)
+  where
+    ts : List ℕ
+    ts = map (S .task) ds
+
+    counts : (isOrder (S .tasks) (full (S .tasks)) ts ≡ true) ↔ ((t : ℕ) → countOf t ts ≡ bit (full (S .tasks)) t)
+    counts = order-means (S .tasks) (full (S .tasks)) ts (full-lt (S .tasks))
+
+    there : isSolution S s ds ≡ true → Solves S s ds
+    there h =
+        let x : Solution S s ds = solution S s ds h in
+        record {
+          start = x .start;
+          doors = doors-mean S ds .0 (x .doors);
+          once = λ t l. counts .0 (x .order) t ∙ full-bit (S .tasks) t l;
+          nothing-else = λ t l. counts .0 (x .order) t ∙ bit-above (S .tasks) t (full (S .tasks)) (full-lt (S .tasks)) l;
+          pairs = λ i l. ltb-true _ _ (all-at (S .pairs) (keepsPair S ts) (x .pairs) i l);
+        }
+
+    back : Solves S s ds → isSolution S s ds ≡ true
+    back h = is-solution S s ds (record {
+      start = h .start;
+      doors = doors-mean S ds .1 (h .doors);
+      order = counts .1 (λ t. ⊎-elim
+          (λ (w : ltb t (S .tasks) ≡ true). let l = ltb-true t (S .tasks) w in h .once t l ∙ sym (full-bit (S .tasks) t l))
+          (λ (w : ltb t (S .tasks) ≡ false). let l = ltb-false t (S .tasks) w in h .nothing-else t l ∙ sym (bit-above (S .tasks) t (full (S .tasks)) (full-lt (S .tasks)) l))
+          (tested (ltb t (S .tasks))));
+      pairs = all-below (S .pairs) (keepsPair S ts) (λ i l. lt-ltb _ _ (h .pairs i l));
+    })
 
 -- a completion of K: each door is one of the sheet's; of the tasks as driven each of K stands once and nothing else stands there; and of each pair with both
 -- its tasks in K the sender stands before the receiver

@@ -3,13 +3,15 @@ use mathlib.Core.Path.{_≡_, ap}
 use mathlib.Core.Bool.{not}
 use mathlib.Core.List.{List}
 use mathlib.Core.Logic.{_↔_}
-use Prim.Native.Nat.{ℕ, suc, _≤_, _<_}
-use lib.Dec.{eqb}
+use Prim.Native.Nat.{ℕ, suc, _*_, _≤_, _<_}
+use native.Mathlib.Nat.{mul-le-mul}
+use native.Mathlib.Omega.{arith}
+use lib.Dec.{eqb, lit<}
 use lib.ListN.{length}
 use borrow.Author.Tests.{eqb-true, eq-eqb, ltb-false, le-ltb, not-false}
 use Rattle.model.specs.Folds.{anyBelow}
 use Rattle.model.specs.Bytes.{numberAt}
-use Rattle.model.specs.SheetLayout.{bodies, kind1, lineAt, lineBody, lineOffset, bodyAt, decode}
+use Rattle.model.specs.SheetLayout.{bodies, kind1, lineAt, lineBody, lineOffset, entries, bodyAt, fieldWidth, bytesBefore, entryBytes, decode}
 use Rattle.model.specs.Faults.{tooShort, wrongKind, wrongEntries, wrongLine, wrongLength}
 use Rattle.model.proofs.Tests.{or-left, or-right, or-neither, none-at, none-below, between-is}
 use Rattle.model.proofs.Limits.{EntriesWithin, entries-within}
@@ -60,3 +62,18 @@ passes-iff b = (there, back)
       ranges = range-passes kind1 (decode b) (h .ranges) (h .leastCounts);
       doors = served-passes (decode b) (h .doors);
     }
+
+-- the shortest sheet has 66 bytes, the longest 9,638
+pub length-between : (b : List ℕ) → Passes b → (66 ≤ length b) × (length b ≤ 9638)
+unfolding kind1 entryBytes bytesBefore fieldWidth lineAt
+length-between b h =
+    let n = h .counts 0 (lit< tt) in
+    let d = h .counts 1 (lit< tt) in
+    let s = h .counts 2 (lit< tt) in
+    let q = h .counts 3 (lit< tt) in
+    let r = h .counts 4 (lit< tt) in
+    let p = h .counts 5 (lit< tt) in
+    let m = h .counts 6 (lit< tt) in
+    let lo : 1 * 1 ≤ entries b 5 * entries b 5 = mul-le-mul (p .0) (p .0) in
+    let hi : entries b 5 * entries b 5 ≤ 64 * 64 = mul-le-mul (p .1) (p .1) in
+    (omega (arith, h .ends, n, d, s, m, lo), omega (arith, h .ends, n, d, s, q, r, m, hi))

@@ -3,11 +3,11 @@ use mathlib.Core.Bool.{Bool, false, _&&_}
 use mathlib.Core.List.{List, [], _∷_, _++_}
 use Prim.Native.Nat.{ℕ, _+_, _*_}
 use lib.Dec.{eqb}
-use lib.ListN.{length}
+use lib.ListN.{length, take}
 use Rattle.model.specs.Folds.{sameList}
 use Rattle.model.specs.Plans.{roundCost}
 use Rattle.model.specs.Answer.{Answer, refused, accepted}
-use Rattle.model.specs.SheetLayout.{decode}
+use Rattle.model.specs.SheetLayout.{maxPoints, kind1, sheetLength, decode}
 use Rattle.model.specs.Faults.{Counts, readSheet}
 use Rattle.model.specs.Validating.{validate}
 use Rattle.model.specs.Planning.{Planned, plan}
@@ -37,7 +37,7 @@ sheetA =
     ∷ 3 ∷ 0 ∷ 4 ∷ 0 ∷ 0 ∷ 0
     ∷ []
 
--- A with end load e, and with so many pairs and rules, whose bytes are given
+-- A with end load e, and with so many pairs and rules, whose bytes are given. With 10 and none it is A again, which the check compares
 abbrev pub likeA : ℕ → ℕ → List ℕ → ℕ → List ℕ → List ℕ
 likeA e pairs pairBytes rules ruleBytes =
     1 ∷ 0 ∷ e ∷ 0
@@ -80,6 +80,31 @@ charged charge = likeA 10 0 [] 1 (ruleBytes 0 2 1 charge)
 abbrev pub ended : ℕ → List ℕ
 ended e = likeA e 0 [] 0 []
 
+-- Sheet B, of our own: two starts, two doors for task 0, doors that depart from another point than they arrive at, distances that differ with the
+-- direction, and numbers of several bytes. E 20; w +7, -4; door 0 (task 1, points 2 to 0, work 70,000), door 1 (task 0, points 1 to 2, work 5), door 2 (task 0,
+-- points 0 to 1, work 3); starts at points 1 and 2; a rule on door 1, watched 2, least 1, charge 300; end costs 9, 4, 6; distance rows 0 5 1, 2 0 300, 7 3 0
+abbrev pub sheetB : List ℕ
+sheetB =
+    1 ∷ 0 ∷ 20 ∷ 0
+    ∷ 1 ∷ 0 ∷ 46 ∷ 0 ∷ 2 ∷ 0
+    ∷ 2 ∷ 0 ∷ 50 ∷ 0 ∷ 3 ∷ 0
+    ∷ 3 ∷ 0 ∷ 80 ∷ 0 ∷ 2 ∷ 0
+    ∷ 4 ∷ 0 ∷ 84 ∷ 0 ∷ 0 ∷ 0
+    ∷ 5 ∷ 0 ∷ 84 ∷ 0 ∷ 1 ∷ 0
+    ∷ 6 ∷ 0 ∷ 94 ∷ 0 ∷ 3 ∷ 0
+    ∷ 7 ∷ 0 ∷ 106 ∷ 0 ∷ 9 ∷ 0
+    ∷ 7 ∷ 0 ∷ 252 ∷ 255
+    ∷ 1 ∷ 0 ∷ 2 ∷ 0 ∷ 0 ∷ 0 ∷ 112 ∷ 17 ∷ 1 ∷ 0
+    ∷ 0 ∷ 0 ∷ 1 ∷ 0 ∷ 2 ∷ 0 ∷ 5 ∷ 0 ∷ 0 ∷ 0
+    ∷ 0 ∷ 0 ∷ 0 ∷ 0 ∷ 1 ∷ 0 ∷ 3 ∷ 0 ∷ 0 ∷ 0
+    ∷ 1 ∷ 0 ∷ 2 ∷ 0
+    ∷ 1 ∷ 0 ∷ 2 ∷ 0 ∷ 1 ∷ 0 ∷ 44 ∷ 1 ∷ 0 ∷ 0
+    ∷ 9 ∷ 0 ∷ 0 ∷ 0 ∷ 4 ∷ 0 ∷ 0 ∷ 0 ∷ 6 ∷ 0 ∷ 0 ∷ 0
+    ∷ 0 ∷ 0 ∷ 5 ∷ 0 ∷ 1 ∷ 0
+    ∷ 2 ∷ 0 ∷ 0 ∷ 0 ∷ 44 ∷ 1
+    ∷ 7 ∷ 0 ∷ 3 ∷ 0 ∷ 0 ∷ 0
+    ∷ []
+
 -- ---- what is lent: 14 cells and a buffer of 39 bytes, with noise in them
 
 abbrev cellNoise : List ℕ
@@ -100,7 +125,14 @@ planA =
     ∷ 0x18 ∷ 0x00 ∷ 0x02 ∷ 0x00 ∷ 0x03 ∷ 0x00 ∷ 0x1c ∷ 0x00 ∷ 0x01 ∷ 0x00 ∷ 0x00 ∷ 0x00
     ∷ 0x00 ∷ 0x00 ∷ 0x01 ∷ 0x00 ∷ 0x5c ∷ 0x00 ∷ 0x00 ∷ 0x00 ∷ 0x00 ∷ 0x00 ∷ 0x00 ∷ 0x00 ∷ []
 
--- the same for two doors and a cost below 256
+-- the plan of B: start 1, doors 0, 2, cost 70,007
+abbrev planB : List ℕ
+planB =
+    2 ∷ 0 ∷ 0 ∷ 0 ∷ 1 ∷ 0 ∷ 22 ∷ 0 ∷ 1 ∷ 0 ∷ 2 ∷ 0
+    ∷ 24 ∷ 0 ∷ 2 ∷ 0 ∷ 3 ∷ 0 ∷ 28 ∷ 0 ∷ 1 ∷ 0 ∷ 1 ∷ 0
+    ∷ 0 ∷ 0 ∷ 2 ∷ 0 ∷ 119 ∷ 17 ∷ 1 ∷ 0 ∷ 0 ∷ 0 ∷ 0 ∷ 0 ∷ []
+
+-- a plan like that of A, for two doors and a cost below 256
 abbrev planLikeA : ℕ → ℕ → ℕ → List ℕ
 planLikeA d₁ d₂ cost =
     2 ∷ 0 ∷ 0 ∷ 0 ∷ 1 ∷ 0 ∷ 22 ∷ 0 ∷ 1 ∷ 0 ∷ 2 ∷ 0
@@ -167,3 +199,27 @@ checkStarred =
     && sameAnswer (validate paired planA) (refused 33)
     -- the print program
     && sameList (printed sheetA) (ascii "cost 92\nstart 0\ndoor 0 task 0 open 3\ndoor 1 task 1 open 2\n")
+
+-- what the starred lines do not see: the unstarred lines on room and on short sheets, refusals in print, and sheet B, whose figures are those of an
+-- enumeration made apart from these definitions
+unfoldable pub checkFurther : Bool
+checkFurther =
+    -- 12 cells suffice, 11 give 20; 36 bytes suffice, 35 give 21; both short: 20
+    sameAnswer (plan sheetA (take 12 cellNoise) (take 36 byteNoise) .answer) (accepted 92)
+    && sameAnswer (plan sheetA (take 11 cellNoise) (take 36 byteNoise) .answer) (refused 20)
+    && sameAnswer (plan sheetA (take 12 cellNoise) (take 35 byteNoise) .answer) (refused 21)
+    && sameAnswer (plan sheetA (take 11 cellNoise) (take 35 byteNoise) .answer) (refused 20)
+    -- a sheet of 45 bytes; a judged plan of 35 bytes; door 2
+    && readingRefuses (readSheet (take 45 sheetA)) 10
+    && sameAnswer (validate sheetA (take 35 planA)) (refused 30)
+    && sameAnswer (validate sheetA (planLikeA 0 2 92)) (refused 31)
+    -- the shortest sheet has 66 bytes, the longest 9,638
+    && eqb (sheetLength kind1 (kind1 .fewest 1)) 66
+    && eqb (sheetLength kind1 (kind1 .most maxPoints)) 9638
+    -- refusals in print
+    && sameList (printed ringed) (ascii "refused 17\n")
+    && sameList (printed (take 45 sheetA)) (ascii "refused 10\n")
+    -- sheet B
+    && planning (plan sheetB cellNoise byteNoise) 70007 (9 ∷ 4 ∷ 6 ∷ 7 ∷ 11 ∷ 92 ∷ 70025 ∷ 74809 ∷ 70009 ∷ 70030 ∷ 70314 ∷ 70007 ∷ []) planB
+    && sameAnswer (validate sheetB planB) (accepted 70007)
+    && sameList (printed sheetB) (ascii "cost 70007\nstart 1\ndoor 0 task 1 open 3\ndoor 2 task 0 open 1\n")

@@ -11,7 +11,7 @@ use Rattle.model.specs.Sheet.{Sheet}
 unfoldable pub isOrder : ℕ → ℕ → List ℕ → Bool
 isOrder n K ts = allIn (λ t. ltb t n) ts && allBelow n (λ t. eqb (countOf t ts) (bit K t))
 
--- the order keeps pair i: the sender stands before the receiver (01, Cost of a round; 000, (2.7))
+-- the order keeps pair i: the sender stands before the receiver (01, Cost of a round; 000, (2.7)). A task that is not in it counts as behind its end
 unfoldable pub keepsPair : Sheet → List ℕ → ℕ → Bool
 keepsPair S ts i = ltb (indexOf (S .sender i) ts) (indexOf (S .receiver i) ts)
 
@@ -47,11 +47,11 @@ ordersWithin S K = keepIf (isOrderWithin S K) (listsBelow (S .tasks) (size (S .t
 unfoldable pub noOrder : Sheet → Bool
 noOrder S = isEmpty (admissibleOrders S)
 
--- an essential list: not empty and, for each pair, with the receiver whenever it has the sender (01, Cost of a round; 000, (4.2))
+-- an essential list, of K below 2 ^ N: not empty and, for each pair, with the receiver whenever it has the sender (01, Cost of a round; 000, (4.2))
 unfoldable pub essential : Sheet → ℕ → Bool
 essential S K = not (eqb K 0) && allBelow (S .pairs) (λ i. not (member K (S .sender i)) || member K (S .receiver i))
 
--- the lists that the pairs allow: the essential ones and the empty one (01, Cost of a round)
+-- the lists that the pairs allow, of K below 2 ^ N: the essential ones and the empty one (01, Cost of a round)
 unfoldable pub pairsAllow : Sheet → ℕ → Bool
 pairsAllow S K = eqb K 0 || essential S K
 

@@ -57,7 +57,8 @@ isCompletion S K ds = inSheet S ds && isOrderWithin S K (map (S .task) ds)
 unfoldable pub completions : Sheet → ℕ → List (List ℕ)
 completions S K = keepIf (isCompletion S K) (listsBelow (S .doors) (size (S .tasks) K))
 
--- the least cost of finishing from point p with K open: the cost to finish (01, Cost of a round)
+-- the cost to go, the cost to finish of document 01: the least cost of finishing from point p with K open (01, Cost of a round).
+-- Every list has a completion where 17 does not apply (`has-completion`); where there is none this is 0
 unfoldable pub costToGo : Sheet → ℕ → ℕ → ℕ
 costToGo S K p = least (map (cost S p) (completions S K))
 
