@@ -28,6 +28,7 @@ pub mod PlanBytes
 pub mod Solutions
 pub mod Validating
 pub mod Planning
+pub mod Decimals
 pub mod Printing
 pub mod Meanings
 pub mod Agreement
