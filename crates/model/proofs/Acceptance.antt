@@ -1,12 +1,14 @@
 -- The starred lines of document 01, and further examples, hold of the definitions, by computing. Assumes nothing.
+use mathlib.Core.Path.{_≡_, refl}
 use lib.Dec.{T}
-use Rattle.model.specs.Examples.{checkStarred, checkFurther}
+use Rattle.model.specs.Examples.{sheetA, checkStarred, checkFurther}
 use Rattle.model.specs.Folds.{countBelow, isBetween, mapBelow}
 use Rattle.model.specs.TaskList.{bit, with, without, full, size, watchedIn}
 use Rattle.model.specs.Orders.{isOrder, keepsPair, keepsEveryPair, pairWithin, keepsPairsWithin, isAdmissible, isOrderWithin, admissibleOrders, noOrder, essential, pairsAllow}
 use Rattle.model.specs.Cost.{load, ruleCharge, charges, stepCost}
 use Rattle.model.specs.Plans.{inSheet, isSolution, roundCost, planCost, plans, solutions, cheapest, isCompletion, completions, costToGo}
 use Rattle.model.specs.Bytes.{numberAt, signed, bytesOf, overwrite}
+use Rattle.model.specs.Answer.{accepted}
 use Rattle.model.specs.SheetLayout.{kind1, fieldWidth, bytesBefore, entryBytes, lineAt, lineBody, lineOffset, entries, fieldAt, sheetLength, decodeBy, decode}
 use Rattle.model.specs.Faults.{tooShort, wrongKind, wrongEntries, wrongLine, wrongLength, badDoor, badStart, badPair, badRule, outOfRange, lacksDoor, tooLight, unlessFault, readSheet}
 use Rattle.model.specs.PlanLayout.{planStartAt, planDoorsAt, planCostAt, planLength, lineBytes, planHead, planBytes, illFormed, startIn, doorIn, doorsIn, costIn}
@@ -14,7 +16,7 @@ use Rattle.model.specs.Validating.{notInSheet, doneTwice, validateFor, v
 use Rattle.model.specs.Planning.{cellsNeeded, planFor, cellAfter, cellsAfter, plan}
 use Rattle.model.specs.Printing.{decimal, refusalLine, stepLine, planLines, printInput, printedFor, printed}
 
-examples : T checkStarred × T checkFurther
+examples : T checkStarred × T checkFurther × (readSheet sheetA ≡ accepted (record { tasks = 2; points = 3 }))
 unfolding checkStarred checkFurther
     countBelow isBetween mapBelow
     bit with without full size watchedIn
@@ -28,7 +30,7 @@ unfolding checkStarred checkFurther
     notInSheet doneTwice validateFor validate
     cellsNeeded planFor cellAfter cellsAfter plan
     decimal refusalLine stepLine planLines printInput printedFor printed
-examples = (tt, tt)
+examples = (tt, tt, refl)
 
 -- the starred lines, all of them
 pub starred : T checkStarred
@@ -37,3 +39,7 @@ starred = examples .0
 -- room, short sheets, refusals in print, and a sheet of our own
 pub further : T checkFurther
 further = examples .1
+
+-- A reads, with two tasks and three points
+pub reads-A : readSheet sheetA ≡ accepted (record { tasks = 2; points = 3 })
+reads-A = examples .2

@@ -9,7 +9,7 @@ use Prim.Native.Nat.{ℕ, _+_, _*_, _^_, _≤_, _<_}
 use native.Mathlib.Nat.{lt-of-lt-of-le}
 use lib.Arith.{digits-lt}
 use lib.Dec.{lit≤}
-use lib.ListN.{length, getD, take, drop}
+use lib.ListN.{length, getD, take, drop, replicate}
 use lib.Pow.{areBytes}
 use Rattle.model.specs.Orders.{isAdmissible, noOrder, pairsAllow}
 use Rattle.model.specs.Cost.{cost}
@@ -19,8 +19,10 @@ use Rattle.model.specs.SheetLayout.{decode}
 use Rattle.model.specs.Faults.{Counts, readSheet}
 use Rattle.model.specs.PlanLayout.{maxPlanDoors, planLength, planBytes, doorArray, PlanRead, writePlan, readPlan}
 use Rattle.model.specs.Validating.{validate}
+use Rattle.model.specs.Examples.{sheetA}
 use Rattle.model.specs.Planning.{cellsNeeded, orNoOrder, planFor, carriedOut, plan}
-use Rattle.model.proofs.Reading.{refused≢accepted, Passed, Reads, reads-then, accepted-reads, refused-reads, refused-alike}
+use Rattle.model.proofs.Acceptance.{reads-A}
+use Rattle.model.proofs.Reading.{refused≢accepted, accepted-value, Passed, Reads, reads-then, accepted-reads, refused-reads, refused-alike}
 use Rattle.model.proofs.Passing.{Passes, passes-iff}
 use Rattle.model.proofs.Loads.{Light, light, light-passes}
 use Rattle.model.proofs.Ranks.{RanksBefore}
@@ -280,3 +282,18 @@ demand-3 b cells buffer L = record {
     not-17 : (t : Bool) → noOrder (decode b) ≡ t → (plan b cells buffer .answer ≡ refused 17 → ⊥) → noOrder (decode b) ≡ false
     not-17 true e h = absurd (h (refused-17 b cells buffer L e))
     not-17 false e h = e
+
+-- nothing is asked that no sheet meets: A, with 12 cells and 36 bytes
+pub lent-A : Lent sheetA (replicate 12 0) (replicate 36 0)
+unfolding readSheet
+lent-A =
+    let r = accepted-reads sheetA _ _ reads-A in
+    let n : decode sheetA .tasks ≡ 2 = ap (λ x. x .tasks) (accepted-value (r .1)) in
+    let p : decode sheetA .points ≡ 3 = ap (λ x. x .points) (accepted-value (r .1)) in
+    record {
+      bytes = refl;
+      passes = passes-iff sheetA .0 (r .0 .passed-tests);
+      light = light (decode sheetA) (r .0 .light);
+      work-room = rw (n, p) (lit≤ tt);
+      plan-room = rw n (lit≤ tt);
+    }

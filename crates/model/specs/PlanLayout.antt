@@ -19,15 +19,19 @@ planKind = 2
 
 -- ---- places, with n doors: behind kind, zero and three contents lines stand the start (16 bits), the doors (16 bits each) and the cost (64 bits)
 
+-- where the start stands: at byte 22
 unfoldable pub planStartAt : ℕ
 planStartAt = lineAt 3
 
+-- where the doors stand: at byte 24
 unfoldable pub planDoorsAt : ℕ
 planDoorsAt = planStartAt + 2
 
+-- where the cost stands: at byte 24 + 2n
 unfoldable pub planCostAt : ℕ → ℕ
 planCostAt n = planDoorsAt + 2 * n
 
+-- the length: 32 + 2n
 unfoldable pub planLength : ℕ → ℕ
 planLength n = planCostAt n + 8
 
@@ -45,7 +49,7 @@ planHead n = bytesOf 2 planKind ++ bytesOf 2 0 ++ lineBytes 1 planStartAt 1 ++ l
 unfoldable pub planBytes : ℕ → ℕ → List ℕ → ℕ → List ℕ
 planBytes n start doors cost = planHead n ++ bytesOf 2 start ++ flatMapBelow n (λ i. bytesOf 2 (getD doors i 0)) ++ bytesOf 8 cost
 
--- 12: the number of tasks is outside 1 to 12
+-- 12: the number of tasks is outside the room of a plan
 unfoldable pub wrongTasks : ℕ → Bool
 wrongTasks n = not (isBetween 1 maxPlanDoors n)
 
@@ -76,16 +80,19 @@ writePlan n start doors cost buffer = record {
 unfoldable pub illFormed : ℕ → List ℕ → Bool
 illFormed n q = not (eqb (length q) (planLength n)) || not (sameList (take planStartAt q) (planHead n))
 
--- the start, door i, the n doors and the cost that the bytes hold
+-- the start that the bytes hold
 unfoldable pub startIn : List ℕ → ℕ
 startIn q = numberAt 2 q planStartAt
 
+-- door i that they hold
 unfoldable pub doorIn : List ℕ → ℕ → ℕ
 doorIn q i = numberAt 2 q (planDoorsAt + 2 * i)
 
+-- the n doors that they hold
 unfoldable pub doorsIn : ℕ → List ℕ → List ℕ
 doorsIn n q = mapBelow n (doorIn q)
 
+-- the cost that they hold
 unfoldable pub costIn : ℕ → List ℕ → ℕ
 costIn n q = numberAt 8 q (planCostAt n)
 

@@ -68,9 +68,10 @@ printInput = suc (sheetLength kind1 (kind1 .most maxPoints))
 abbrev pub printCells : ℕ
 printCells = 4096
 
--- what is printed for the sheet b, and for what stands on standard input
+-- what is printed for the sheet b
 unfoldable pub printedFor : List ℕ → List ℕ
 printedFor b = answerLines (decode b) (planFor b printCells (planLength maxPlanDoors))
 
+-- what is printed for what stands on standard input
 unfoldable pub printed : List ℕ → List ℕ
 printed input = printedFor (take printInput input)

@@ -107,13 +107,15 @@ entryBytes L i = bytesBefore L i (length (getD (L .fieldWidths) i []))
 unfoldable pub lineAt : ℕ → ℕ
 lineAt i = 4 + 6 * i
 
--- the body number, the offset and the number of entries that contents line i states
+-- the body number that contents line i states
 unfoldable pub lineBody : List ℕ → ℕ → ℕ
 lineBody b i = numberAt 2 b (lineAt i)
 
+-- the offset that it states
 unfoldable pub lineOffset : List ℕ → ℕ → ℕ
 lineOffset b i = numberAt 2 b (lineAt i + 2)
 
+-- the number of entries that it states
 unfoldable pub entries : List ℕ → ℕ → ℕ
 entries b i = numberAt 2 b (lineAt i + 4)
 
