@@ -1,19 +1,19 @@
 -- A sheet that passes 10 to 15, in plain words: the layout, number for number, and nothing out of range. Assumes nothing.
 use mathlib.Core.Path.{_≡_, ap}
 use mathlib.Core.Bool.{not}
-use mathlib.Core.List.{List}
-use mathlib.Core.Logic.{_↔_}
-use Prim.Native.Nat.{ℕ, suc, _*_, _≤_, _<_}
-use native.Mathlib.Nat.{mul-le-mul}
+use mathlib.Core.List.{List, []}
+use mathlib.Core.Logic.{_↔_, ⊎-elim}
+use Prim.Native.Nat.{ℕ, zero, suc, _+_, _*_, _≤_, _<_}
+use native.Mathlib.Nat.{mul-le-mul, mul-le-mul-right}
 use native.Mathlib.Omega.{arith}
 use lib.Dec.{eqb, lit<}
-use lib.ListN.{length}
+use lib.ListN.{length, getD}
 use borrow.Author.Tests.{eqb-true, eq-eqb, ltb-false, le-ltb, not-false}
-use Rattle.model.specs.Folds.{anyBelow}
+use Rattle.model.specs.Folds.{anyBelow, sumBelow}
 use Rattle.model.specs.Bytes.{numberAt}
-use Rattle.model.specs.SheetLayout.{bodies, kind1, lineAt, lineBody, lineOffset, entries, bodyAt, fieldWidth, bytesBefore, entryBytes, decode}
+use Rattle.model.specs.SheetLayout.{Layout, bodies, kind1, lineAt, lineBody, lineOffset, entries, bodyAt, fieldWidth, bytesBefore, entryBytes, decode}
 use Rattle.model.specs.Faults.{tooShort, wrongKind, wrongEntries, wrongLine, wrongLength}
-use Rattle.model.proofs.Tests.{or-left, or-right, or-neither, none-at, none-below, between-is}
+use Rattle.model.proofs.Tests.{eq-or-lt, or-left, or-right, or-neither, none-at, none-below, between-is}
 use Rattle.model.proofs.Limits.{EntriesWithin, entries-within}
 use Rattle.model.proofs.Ranges.{InRange, in-range, range-passes, LeastCounts, least-counts, Served, served, served-passes}
 use Rattle.model.proofs.Reading.{Passed}
@@ -77,3 +77,28 @@ length-between b h =
     let lo : 1 * 1 ≤ entries b 5 * entries b 5 = mul-le-mul (p .0) (p .0) in
     let hi : entries b 5 * entries b 5 ≤ 64 * 64 = mul-le-mul (p .1) (p .1) in
     (omega (arith, h .ends, n, d, s, m, lo), omega (arith, h .ends, n, d, s, q, r, m, hi))
+
+-- ---- no field lies beyond the end
+
+up-to : (g : ℕ → ℕ) (f n : ℕ) → f < n → sumBelow f g + g f ≤ sumBelow n g
+up-to g f zero l = absurd (omega arith)
+up-to g f (suc n) l = ⊎-elim
+    (λ (w : f ≡ n). rw w (omega arith))
+    (λ (w : f < n). omega (arith, up-to g f n w))
+    (eq-or-lt f n l)
+
+body-within : (L : Layout) (b : List ℕ) (i n : ℕ) → i < n → bodyAt L b i + entries b i * entryBytes L i ≤ bodyAt L b n
+body-within L b i zero l = absurd (omega arith)
+body-within L b i (suc n) l = ⊎-elim
+    (λ (w : i ≡ n). rw w (omega arith))
+    (λ (w : i < n). omega (arith, body-within L b i n w))
+    (eq-or-lt i n l)
+
+-- field f of entry e of body i ends within a sheet that ends with its last body
+pub field-within : (L : Layout) (b : List ℕ) → length b ≡ bodyAt L b bodies → (i e f : ℕ) → i < bodies → e < entries b i → f < length (getD (L .fieldWidths) i [])
+    → bodyAt L b i + e * entryBytes L i + bytesBefore L i f + fieldWidth L i f ≤ length b
+unfolding entryBytes bytesBefore
+field-within L b end i e f li le lf =
+    let row : sumBelow f (fieldWidth L i) + fieldWidth L i f ≤ entryBytes L i = up-to (fieldWidth L i) f (length (getD (L .fieldWidths) i [])) lf in
+    let last : (e + 1) * entryBytes L i ≤ entries b i * entryBytes L i = mul-le-mul-right (entryBytes L i) (omega arith) in
+    omega (arith, row, last, body-within L b i bodies li, end)
