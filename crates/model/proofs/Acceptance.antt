@@ -36,7 +36,7 @@ examples = (tt, tt, refl)
 pub starred : T checkStarred
 starred = examples .0
 
--- room, short sheets, refusals in print, and a sheet of our own
+-- room, the numbers 10 to 15, refusals in print, and a sheet of our own
 pub further : T checkFurther
 further = examples .1
 

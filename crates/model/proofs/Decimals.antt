@@ -48,9 +48,9 @@ unfolding decimal
 decimal-digits n = by-digits n n (omega arith)
 
 -- and the first is 0 only where the number is
-first-append : (xs ys : List ℕ) → 0 < length xs → getD (xs ++ ys) 0 0 ≡ getD xs 0 0
-first-append [] ys l = absurd (omega arith)
-first-append (x ∷ xs) ys l = refl
+front-append : (xs ys : List ℕ) → 0 < length xs → getD (xs ++ ys) 0 0 ≡ getD xs 0 0
+front-append [] ys l = absurd (omega arith)
+front-append (x ∷ xs) ys l = refl
 
 some-digit : (k n : ℕ) → 0 < length (decimalBy k n)
 some-digit zero n = omega arith
@@ -64,7 +64,7 @@ by-first (suc k) n l = go (ltb n 10) refl (λ (m : 0 < n / 10). by-first k (n / 
     go : (b : Bool) → ltb n 10 ≡ b → (0 < n / 10 → 48 < getD (decimalBy k (n / 10)) 0 0)
         → 48 < getD (elim b as (λ c. List ℕ) [ true ↦ (48 + n) ∷ [] | false ↦ decimalBy k (n / 10) ++ ((48 + n % 10) ∷ []) ]) 0 0
     go true e h = omega arith
-    go false e h = rw (first-append (decimalBy k (n / 10)) ((48 + n % 10) ∷ []) (some-digit k (n / 10))) (h (omega (arith, ltb-false n 10 e)))
+    go false e h = rw (front-append (decimalBy k (n / 10)) ((48 + n % 10) ∷ []) (some-digit k (n / 10))) (h (omega (arith, ltb-false n 10 e)))
 
 pub decimal-first : (n : ℕ) → 0 < n → 48 < getD (decimal n) 0 0
 unfolding decimal

@@ -2,7 +2,7 @@
 use mathlib.Core.Bool.{Bool, true, false}
 use Prim.Native.Nat.{ℕ}
 
--- an answer
+-- an answer (01, Numbers a call can answer with)
 pub data Answer (A : Type 0) : Type 0 where
   refused : ℕ → Answer A
   accepted : A → Answer A

@@ -1,9 +1,9 @@
--- Sheet A and its neighbours: the starred lines, by one computed check on the definitions (01, Sheet A and its neighbours). Assumes nothing.
+-- Sheet A and its neighbours: the starred lines, by one computed check on the definitions (01, Sheet A and its neighbours, which every definition here is from but sheet B). Assumes nothing.
 use mathlib.Core.Bool.{Bool, false, _&&_}
 use mathlib.Core.List.{List, [], _∷_, _++_}
 use Prim.Native.Nat.{ℕ, _+_, _*_}
 use lib.Dec.{eqb}
-use lib.ListN.{length, take}
+use lib.ListN.{length, take, set}
 use Rattle.model.specs.Folds.{sameList}
 use Rattle.model.specs.Plans.{roundCost}
 use Rattle.model.specs.Answer.{Answer, refused, accepted}
@@ -64,19 +64,23 @@ pairBytes sender receiver = sender ∷ 0 ∷ receiver ∷ 0 ∷ []
 abbrev ruleBytes : ℕ → ℕ → ℕ → ℕ → List ℕ
 ruleBytes door watched leastCount charge = door ∷ 0 ∷ watched ∷ 0 ∷ leastCount ∷ 0 ∷ charge ∷ 0 ∷ 0 ∷ 0 ∷ []
 
--- the pair (1, 0); a ring of two pairs; a pair of a task with itself; a rule on door 0; other end loads
+-- A with the pair (1, 0)
 abbrev pub paired : List ℕ
 paired = likeA 10 1 (pairBytes 1 0) 0 []
 
+-- A with the pairs (0, 1) and (1, 0)
 abbrev pub ringed : List ℕ
 ringed = likeA 10 2 (pairBytes 0 1 ++ pairBytes 1 0) 0 []
 
+-- A with the pair (0, 0)
 abbrev pub selfPaired : List ℕ
 selfPaired = likeA 10 1 (pairBytes 0 0) 0 []
 
+-- A with a rule on door 0, watched 2, least 1
 abbrev pub charged : ℕ → List ℕ
 charged charge = likeA 10 0 [] 1 (ruleBytes 0 2 1 charge)
 
+-- A with another end load
 abbrev pub ended : ℕ → List ℕ
 ended e = likeA e 0 [] 0 []
 
@@ -169,6 +173,7 @@ planningRefuses r n = sameAnswer (r .answer) (refused n) && sameList (r .cells) 
 
 -- ---- the check
 
+-- every starred line
 unfoldable pub checkStarred : Bool
 checkStarred =
     eqb (length sheetA) 102
@@ -200,7 +205,7 @@ checkStarred =
     -- the print program
     && sameList (printed sheetA) (ascii "cost 92\nstart 0\ndoor 0 task 0 open 3\ndoor 1 task 1 open 2\n")
 
--- what the starred lines do not see: the unstarred lines on room and on short sheets, refusals in print, and sheet B, whose figures are those of an
+-- what the starred lines do not see: the unstarred lines on room, the numbers 10 to 15, refusals in print, and sheet B, whose figures are those of an
 -- enumeration made apart from these definitions
 unfoldable pub checkFurther : Bool
 checkFurther =
@@ -209,8 +214,16 @@ checkFurther =
     && sameAnswer (plan sheetA (take 11 cellNoise) (take 36 byteNoise) .answer) (refused 20)
     && sameAnswer (plan sheetA (take 12 cellNoise) (take 35 byteNoise) .answer) (refused 21)
     && sameAnswer (plan sheetA (take 11 cellNoise) (take 35 byteNoise) .answer) (refused 20)
-    -- a sheet of 45 bytes; a judged plan of 35 bytes; door 2
+    -- a sheet of 45 bytes; kind 2; thirteen tasks; a wrong body number, a wrong offset, a byte too many; a door of task 2; a task without a door
     && readingRefuses (readSheet (take 45 sheetA)) 10
+    && readingRefuses (readSheet (set sheetA 0 2)) 11
+    && readingRefuses (readSheet (set sheetA 8 13)) 12
+    && readingRefuses (readSheet (set sheetA 4 2)) 13
+    && readingRefuses (readSheet (set sheetA 6 47)) 13
+    && readingRefuses (readSheet (sheetA ++ (0 ∷ []))) 13
+    && readingRefuses (readSheet (set sheetA 60 2)) 14
+    && readingRefuses (readSheet (set sheetA 60 0)) 15
+    -- a judged plan of 35 bytes; door 2
     && sameAnswer (validate sheetA (take 35 planA)) (refused 30)
     && sameAnswer (validate sheetA (planLikeA 0 2 92)) (refused 31)
     -- the shortest sheet has 66 bytes, the longest 9,638

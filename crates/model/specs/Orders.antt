@@ -68,7 +68,7 @@ abbrev pub strikeBelow : Sheet → ℕ → ℕ → ℕ
 strikeBelow S zero K = K
 strikeBelow S (suc n) K = cond (canComeFirst S (strikeBelow S n K) n) (without (strikeBelow S n K) n) (strikeBelow S n K)
 
--- and after k such passes over all tasks
+-- and after k such passes over all tasks (000, (4.1), again and again)
 abbrev pub strikeOff : Sheet → ℕ → ℕ → ℕ
 strikeOff S zero K = K
 strikeOff S (suc k) K = strikeBelow S (S .tasks) (strikeOff S k K)

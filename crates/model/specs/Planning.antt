@@ -19,7 +19,7 @@ use Rattle.model.specs.PlanLayout.{planLength, planBytes}
 unfoldable pub cellsNeeded : Sheet → ℕ
 cellsNeeded S = 2 ^ S .tasks * S .points
 
--- the plan, if there is one. Where 17 does not apply there is (`has-plan`), so this refusal is never met
+-- the plan, if there is one, else 17 (01, number 17). Where 17 does not apply there is (`has-plan`), so this refusal is never met
 abbrev pub orNoOrder : Option Plan → Answer Plan
 orNoOrder none = refused 17
 orNoOrder (some x) = accepted x
@@ -37,11 +37,11 @@ unfoldable pub cellAfter : Sheet → ℕ → ℕ → ℕ
 cellAfter S i x =
     cond (ltb (i / S .points) (2 ^ S .tasks) && pairsAllow S (i / S .points)) (costToGo S (i / S .points) (i % S .points)) x
 
--- every cell afterwards
+-- every cell afterwards (01, Working)
 unfoldable pub cellsAfter : Sheet → List ℕ → List ℕ
 cellsAfter S cells = mapBelow (length cells) (λ i. cellAfter S i (getD cells i 0))
 
--- what planning answers, the cost, and the cells and the buffer afterwards
+-- what planning answers, the cost, and the cells and the buffer afterwards (01, Working and Layout of a plan)
 pub record Planned : Type 0 where
   pub answer : Answer ℕ
   pub cells : List ℕ
@@ -56,6 +56,6 @@ carriedOut S (accepted x) cells buffer = record {
   bytes = overwrite (planBytes (S .tasks) (x .start) (x .doors) (planCost S x)) buffer;
 }
 
--- planning, from the sheet's bytes, the cells as lent and the buffer as lent
+-- planning, from the sheet's bytes, the cells as lent and the buffer as lent (01, Working)
 unfoldable pub plan : List ℕ → List ℕ → List ℕ → Planned
 plan b cells buffer = carriedOut (decode b) (planFor b (length cells) (length buffer)) cells buffer

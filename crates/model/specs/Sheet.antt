@@ -3,6 +3,7 @@
 use Prim.Native.Nat.{ℕ}
 use lib.IntN.{ℤ}
 
+-- a task sheet (01, Layout of a task sheet)
 pub record Sheet : Type 0 where
   -- van and goods when all tasks are done, in kilograms
   pub endLoad : ℕ

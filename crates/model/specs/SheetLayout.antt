@@ -9,6 +9,7 @@ use Rattle.model.specs.Bytes.{numberAt, signed}
 
 -- ---- the table of a kind of sheet
 
+-- the layout table
 pub record Layout : Type 0 where
   -- the kind, in bytes 0 and 1
   pub kind : ℕ
@@ -20,47 +21,59 @@ pub record Layout : Type 0 where
   -- a least count runs from 1 to this
   pub maxLeastCount : ℕ
 
--- the bodies, in their order
+-- body 1, tasks
 abbrev pub tasksBody : ℕ
 tasksBody = 0
 
+-- body 2, doors
 abbrev pub doorsBody : ℕ
 doorsBody = 1
 
+-- body 3, starts
 abbrev pub startsBody : ℕ
 startsBody = 2
 
+-- body 4, pairs
 abbrev pub pairsBody : ℕ
 pairsBody = 3
 
+-- body 5, access rules
 abbrev pub rulesBody : ℕ
 rulesBody = 4
 
+-- body 6, points
 abbrev pub pointsBody : ℕ
 pointsBody = 5
 
+-- body 7, distances
 abbrev pub distancesBody : ℕ
 distancesBody = 6
 
+-- how many there are
 abbrev pub bodies : ℕ
 bodies = 7
 
--- the largest numbers of entries of kind 1
+-- the most tasks of kind 1
 abbrev pub maxTasks : ℕ
 maxTasks = 12
 
+-- the most doors
 abbrev pub maxDoors : ℕ
 maxDoors = 64
 
+-- the most starts
 abbrev pub maxStarts : ℕ
 maxStarts = 16
 
+-- the most pairs
 abbrev pub maxPairs : ℕ
 maxPairs = 32
 
+-- the most access rules
 abbrev pub maxRules : ℕ
 maxRules = 32
 
+-- the most points
 abbrev pub maxPoints : ℕ
 maxPoints = 64
 
