@@ -3,12 +3,13 @@ use mathlib.Core.Path.{_≡_, refl, sym, ap, _∙_}
 use mathlib.Core.Logic.{_≢_, _⊎_, inl, inr, ⊎-elim}
 use mathlib.Core.Bool.{true, false, cond}
 use Prim.Native.Nat.{ℕ, zero, suc, _+_, _-_, _/_, _%_, _^_, _≤_, _<_}
-use native.Mathlib.Nat.{div-one, div-div-eq-div-mul, pow-succ', mod-lt, zero-lt-suc, zero-div}
+use native.Mathlib.Nat.{div-one, div-div-eq-div-mul, pow-succ', mod-lt, zero-lt-suc, zero-div, add-zero}
+use native.Mathlib.Decide.{le-ind}
 use native.Mathlib.Omega.{arith}
 use lib.Pow.{pow-pos, pow-mono}
-use borrow.Author.Tests.{eqb-true, eqb-false, eq-eqb}
+use borrow.Author.Tests.{eqb-true, eqb-false, eq-eqb, le-leb}
 use Rattle.model.specs.Folds.{sumBelow, countBelow}
-use Rattle.model.specs.TaskList.{bit, member, with, without, full, size}
+use Rattle.model.specs.TaskList.{bit, member, with, without, full, size, watchedIn, maxTabled, listsOf}
 use Rattle.model.proofs.Folds.{sum-cong, sum-none, sum-more, sum-zero, sum-le}
 
 -- ---- bits
@@ -206,3 +207,13 @@ size-full n = size-is n (full n) ∙ sum-cong n (bit (full n)) (λ j. 1) (λ j l
     ones : (m : ℕ) → sumBelow m (λ j. 1) ≡ m
     ones zero = refl
     ones (suc m) = omega (arith, ones m)
+
+-- no task at or above n is in W, so counting further adds nothing
+pub watched-below : (n m W K : ℕ) → W < 2 ^ n → n ≤ m → watchedIn m W K ≡ watchedIn n W K
+unfolding watchedIn countBelow
+watched-below n m W K l h = le-ind (λ (k : ℕ). watchedIn k W K ≡ watchedIn n W K) refl (λ k a e. rw (bit-above n k W l a, add-zero) e) m h
+
+-- as far as the table goes it has 2 to the power n
+pub lists-of : (n : ℕ) → n ≤ maxTabled → listsOf n ≡ 2 ^ n
+unfolding listsOf
+lists-of n h = rw le-leb

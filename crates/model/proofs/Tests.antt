@@ -3,8 +3,9 @@ use mathlib.Core.Path.{_≡_, refl, sym, ap, ap₂, _∙_}
 use mathlib.Core.Logic.{_≢_, _⊎_, inl, inr, ⊎-elim}
 use mathlib.Core.Bool.{Bool, true, false, _&&_, _||_, false≢true, true≢false}
 use mathlib.Core.List.{List, [], _∷_}
-use Prim.Native.Nat.{ℕ, zero, suc, _≤_, _<_}
+use Prim.Native.Nat.{ℕ, zero, suc, _+_, _≤_, _<_}
 use native.Mathlib.Omega.{arith}
+use native.Mathlib.Numerals.{add-one}
 use lib.Dec.{eqb, leb}
 use borrow.Author.Tests.{eqb-true, eqb-false, eq-eqb, leb-true, le-leb}
 use Rattle.model.specs.Folds.{allBelow, anyBelow, allIn, sameList, isBetween}
@@ -128,6 +129,20 @@ none-below (suc n) test h = rw (none-below n test (λ i l. h i (omega arith))) (
 pub any-cong : (n : ℕ) (f g : ℕ → Bool) → ((i : ℕ) → i < n → f i ≡ g i) → anyBelow n f ≡ anyBelow n g
 any-cong zero f g h = refl
 any-cong (suc n) f g h = ap₂ _||_ (any-cong n f g (λ i l. h i (omega arith))) (h n (omega arith))
+
+-- one passes
+pub any-true : (n : ℕ) (test : ℕ → Bool) (i : ℕ) → i < n → test i ≡ true → anyBelow n test ≡ true
+any-true n test i l h = ⊎-elim
+    (λ (w : anyBelow n test ≡ true). w)
+    (λ (w : anyBelow n test ≡ false). absurd (not-both h (none-at n test w i l)))
+    (tested (anyBelow n test))
+
+-- one turn more of a loop that looks for a number which passes, or for one which fails
+pub any-next : (i : ℕ) (test : ℕ → Bool) → anyBelow i test ≡ false → test i ≡ false → anyBelow (i + 1) test ≡ false
+any-next i test h e = rw (add-one, h) e
+
+pub all-next : (i : ℕ) (test : ℕ → Bool) → allBelow i test ≡ true → test i ≡ true → allBelow (i + 1) test ≡ true
+all-next i test h e = rw (add-one, h) e
 
 -- ---- lists
 

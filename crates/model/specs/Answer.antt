@@ -11,3 +11,15 @@ pub data Answer (A : Type 0) : Type 0 where
 abbrev pub refuseIf : {A : Type 0} → Bool → ℕ → Answer A → Answer A
 refuseIf true n a = refused n
 refuseIf false n a = a
+
+-- ---- an answer through the C interface (01, Numbers a call can answer with)
+
+-- what the call returns: 0, or the refusal's number
+abbrev pub status : {A : Type 0} → Answer A → ℕ
+status (refused n) = n
+status (accepted x) = 0
+
+-- what a place that was lent holds afterwards: the part f of what was asked for, or after a refusal what it held before
+abbrev pub placed : {A : Type 0} → {B : Type 0} → (A → B) → Answer A → B → B
+placed f (refused n) before = before
+placed f (accepted x) before = f x
