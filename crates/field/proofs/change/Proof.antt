@@ -1,0 +1,25 @@
+-- The only field of body 0, whose place no count moves, in two's complement. Assumes nothing.
+use mathlib.Core.Path.{refl, ap, _∙_}
+use Rattle.model.specs.Bytes.{signed}
+use Rattle.model.specs.SheetLayout.{tasksBody, lineAt, kind1, fieldWidth, bytesBefore, entryBytes, decodeBy, decode}
+use native.Mathlib.Omega.{arith}
+use Rattle.number.proofs.Signs.{signed-back}
+use Rattle.field.proofs.Fields.{at-place}
+use borrow.Author.Needs.{needs}
+use Rattle.field.proofs.change.Statement.{statement}
+use Rattle.field.proofs.change.Tie as tie
+
+field2-requires : tie.Need-field2-requires
+field2-requires c κs = search needs
+
+to-i16-requires : tie.Need-to-i16-requires
+to-i16-requires c κs = search needs
+
+returns : tie.Need-returns
+unfolding lineAt kind1 fieldWidth bytesBefore entryBytes decodeBy decode
+returns c =
+    signed-back (c .before .field2 .result) (c .to-i16 .result) (omega arith) (c .to-i16 .ensures)
+    ∙ ap (signed 2) (at-place tasksBody 0 (c .before .before .before .args .t) _ _ _ refl (c .before .field2 .ensures))
+
+pub change-spec : {M : Type 1} → statement M
+change-spec = tie.close (tie.spec field2-requires to-i16-requires returns)

@@ -1,0 +1,4 @@
+pub mod Searches
+pub mod Places
+pub mod Lightest
+pub mod Striking

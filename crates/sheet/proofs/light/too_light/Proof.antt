@@ -1,0 +1,76 @@
+-- The loop's sum is the end load plus the negative changes of the tasks below t, in 64 bits that it cannot leave. Assumes nothing.
+use mathlib.Core.Logic.{⊎-elim}
+use Prim.Native.Nat.{_-_, _≤_}
+use native.Mathlib.Omega.{arith}
+use borrow.Author.Needs.{needs}
+use Rattle.model.specs.SheetLayout.{decode}
+use Rattle.sheet.proofs.Lightest.{SumBelow, no-task, all-tasks, widened-fits, next-fits, next-sum, same-sum}
+use Rattle.sheet.proofs.light.too_light.Statement.{statement}
+use Rattle.sheet.proofs.light.too_light.Tie as tie
+
+abbrev Inv-loop : tie.InvT-loop
+Inv-loop s tasks least₀ t₀ least t = (t ≤ tasks) × SumBelow (decode s) t least
+
+abbrev μ-loop : tie.MeasureT-loop
+μ-loop s tasks least₀ t₀ least t = tasks - t
+
+tasks-requires : tie.Need-tasks-requires Inv-loop μ-loop
+tasks-requires c κs = search needs
+
+end-load-requires : tie.Need-end-load-requires Inv-loop μ-loop
+end-load-requires c κs = search needs
+
+cast-least : tie.Need-cast-least Inv-loop μ-loop
+cast-least c = search needs
+
+loop-holds : tie.Need-loop-holds Inv-loop μ-loop
+loop-holds c = (omega arith, no-task _ _ (omega arith) (c .end-load .ensures))
+
+change-requires : tie.Need-change-requires Inv-loop μ-loop
+change-requires c κs = search needs
+
+cast-least-2 : tie.Need-cast-least-2 Inv-loop μ-loop
+cast-least-2 c = widened-fits (c .before .change .result) (c .before .change .ok)
+
+add-least : tie.Need-add-least Inv-loop μ-loop
+add-least c =
+    let r = c .before .change in
+    next-fits (c .before .before .before .loop .inv .1) (omega arith) (r .ensures) (r .ok) (c .if1 .taken)
+
+add-t : tie.Need-add-t Inv-loop μ-loop
+add-t c = search needs
+
+loop-less : tie.Need-loop-less Inv-loop μ-loop
+loop-less c = search needs
+
+loop-again : tie.Need-loop-again Inv-loop μ-loop
+loop-again c =
+    let h = c .before .before .before .loop .inv .1 in
+    let r = c .before .change in (
+      omega arith,
+      ⊎-elim
+          (λ w. rw (w .1) (next-sum h (omega arith) (r .ensures) (r .ok) (w .0 .taken)))
+          (λ w. rw (w .1) (same-sum h (omega arith) (r .ensures) (r .ok) (w .0 .left)))
+          (c .if1 .came),
+    )
+
+returns : tie.Need-returns Inv-loop μ-loop
+returns c = all-tasks (c .before .loop .inv .1) (omega arith)
+
+pub too-light-spec : {M : Type 1} → statement M
+too-light-spec =
+    tie.close
+    (tie.spec
+    Inv-loop
+    μ-loop
+    tasks-requires
+    end-load-requires
+    cast-least
+    loop-holds
+    change-requires
+    cast-least-2
+    add-least
+    add-t
+    loop-less
+    loop-again
+    returns)

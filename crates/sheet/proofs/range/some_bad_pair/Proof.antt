@@ -1,0 +1,53 @@
+-- A search through the pairs. Assumes nothing.
+use Prim.Native.Nat.{_-_}
+use Rattle.model.specs.SheetLayout.{decode}
+use Rattle.model.specs.Faults.{badPair}
+use Rattle.sheet.proofs.Searches.{Searched, next, found, none-found}
+use borrow.Author.Needs.{needs}
+use Rattle.sheet.proofs.range.some_bad_pair.Statement.{statement}
+use Rattle.sheet.proofs.range.some_bad_pair.Tie as tie
+
+abbrev Inv-loop : tie.InvT-loop
+Inv-loop s pairs i₀ i = Searched pairs (badPair (decode s)) i
+
+abbrev μ-loop : tie.MeasureT-loop
+μ-loop s pairs i₀ i = pairs - i
+
+pairs-requires : tie.Need-pairs-requires Inv-loop μ-loop
+pairs-requires c κs = search needs
+
+loop-holds : tie.Need-loop-holds Inv-loop μ-loop
+loop-holds c = search needs
+
+bad-pair-requires : tie.Need-bad-pair-requires Inv-loop μ-loop
+bad-pair-requires c κs = search needs
+
+returns : tie.Need-returns Inv-loop μ-loop
+returns c = found _ (c .before .before .loop-test .taken) (c .before .before .before .before .pairs .ensures) (c .before .bad-pair .ensures) (c .if1 .taken)
+
+add-i : tie.Need-add-i Inv-loop μ-loop
+add-i c = search needs
+
+loop-less : tie.Need-loop-less Inv-loop μ-loop
+loop-less c = search needs
+
+loop-again : tie.Need-loop-again Inv-loop μ-loop
+loop-again c = next (c .before .before .before .loop .inv) (c .before .before .loop-test .taken) (c .before .bad-pair .ensures) (c .if1 .left)
+
+returns-2 : tie.Need-returns-2 Inv-loop μ-loop
+returns-2 c = none-found (c .before .loop .inv) (c .loop-test .left) (c .before .before .pairs .ensures)
+
+pub some-bad-pair-spec : {M : Type 1} → statement M
+some-bad-pair-spec =
+    tie.close
+    (tie.spec
+    Inv-loop
+    μ-loop
+    pairs-requires
+    loop-holds
+    bad-pair-requires
+    returns
+    add-i
+    loop-less
+    loop-again
+    returns-2)

@@ -1,0 +1,53 @@
+-- A search through the rules. Assumes nothing.
+use Prim.Native.Nat.{_-_}
+use Rattle.model.specs.SheetLayout.{kind1, decode}
+use Rattle.model.specs.Faults.{badRule}
+use Rattle.sheet.proofs.Searches.{Searched, next, found, none-found}
+use borrow.Author.Needs.{needs}
+use Rattle.sheet.proofs.range.some_bad_rule.Statement.{statement}
+use Rattle.sheet.proofs.range.some_bad_rule.Tie as tie
+
+abbrev Inv-loop : tie.InvT-loop
+Inv-loop s rules i₀ i = Searched rules (badRule kind1 (decode s)) i
+
+abbrev μ-loop : tie.MeasureT-loop
+μ-loop s rules i₀ i = rules - i
+
+rules-requires : tie.Need-rules-requires Inv-loop μ-loop
+rules-requires c κs = search needs
+
+loop-holds : tie.Need-loop-holds Inv-loop μ-loop
+loop-holds c = search needs
+
+bad-rule-requires : tie.Need-bad-rule-requires Inv-loop μ-loop
+bad-rule-requires c κs = search needs
+
+returns : tie.Need-returns Inv-loop μ-loop
+returns c = found _ (c .before .before .loop-test .taken) (c .before .before .before .before .rules .ensures) (c .before .bad-rule .ensures) (c .if1 .taken)
+
+add-i : tie.Need-add-i Inv-loop μ-loop
+add-i c = search needs
+
+loop-less : tie.Need-loop-less Inv-loop μ-loop
+loop-less c = search needs
+
+loop-again : tie.Need-loop-again Inv-loop μ-loop
+loop-again c = next (c .before .before .before .loop .inv) (c .before .before .loop-test .taken) (c .before .bad-rule .ensures) (c .if1 .left)
+
+returns-2 : tie.Need-returns-2 Inv-loop μ-loop
+returns-2 c = none-found (c .before .loop .inv) (c .loop-test .left) (c .before .before .rules .ensures)
+
+pub some-bad-rule-spec : {M : Type 1} → statement M
+some-bad-rule-spec =
+    tie.close
+    (tie.spec
+    Inv-loop
+    μ-loop
+    rules-requires
+    loop-holds
+    bad-rule-requires
+    returns
+    add-i
+    loop-less
+    loop-again
+    returns-2)

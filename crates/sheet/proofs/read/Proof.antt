@@ -1,0 +1,201 @@
+-- Each test that did not apply is one of the definition's chain, and the first that applies is its answer. Twelve tasks at most, which 14 and 17 ask for, is what 12 has tested;
+-- 17 is decided by striking off because 14 has tested the pairs. Assumes nothing.
+use mathlib.Core.Path.{_≡_, sym, ap₂, _∙_}
+use mathlib.Core.Bool.{Bool, false, not, _||_}
+use mathlib.Core.List.{List}
+use Prim.Native.Nat.{ℕ, _≤_}
+use lib.Dec.{eqb}
+use Rattle.model.specs.Folds.{anyBelow}
+use Rattle.model.specs.TaskList.{full, maxTabled}
+use Rattle.model.specs.Orders.{noOrder, strikeOff}
+use Rattle.model.specs.Answer.{Answer, accepted}
+use Rattle.model.specs.SheetLayout.{bodies, kind1, decode}
+use Rattle.model.specs.Faults.{tooShort, wrongKind, wrongEntries, wrongLine, wrongLength, outOfRange, tooLight, unlessFault, Counts, readSheet}
+use Rattle.model.proofs.Limits.{entries-within, counts-within}
+use Rattle.model.proofs.Ranges.{in-range}
+use Rattle.model.proofs.Reading.{Passed, Reads, passed-then, light-then, reads-then}
+use Rattle.model.proofs.NoOrder.{struck-off}
+use borrow.Author.Needs.{needs}
+use Rattle.sheet.proofs.read.Statement.{statement}
+use Rattle.sheet.proofs.read.Tie as tie
+
+-- ---- the bytes, and the tests that were passed, where each `if` was left
+
+abbrev bytes1 : tie.Else1 → List ℕ
+bytes1 c = c .before .before .before .args .s .now
+
+abbrev bytes2 : tie.Else2 → List ℕ
+bytes2 c = bytes1 (c .before .before)
+
+abbrev bytes3 : tie.Else3 → List ℕ
+bytes3 c = bytes2 (c .before .before)
+
+abbrev bytes4 : tie.Else4 → List ℕ
+bytes4 c = bytes3 (c .before .before)
+
+abbrev bytes5 : tie.Else5 → List ℕ
+bytes5 c = bytes4 (c .before .before)
+
+abbrev bytes6 : tie.Else6 → List ℕ
+bytes6 c = bytes5 (c .before .before .before)
+
+long : (c : tie.Else1) → tooShort (bytes1 c) ≡ false
+long c = sym (c .before .too-short .ensures) ∙ c .if1 .left
+
+kind : (c : tie.Else2) → wrongKind kind1 (bytes2 c) ≡ false
+kind c = sym (c .before .wrong-kind .ensures) ∙ c .if2 .left
+
+counts : (c : tie.Else3) → anyBelow bodies (wrongEntries kind1 (bytes3 c)) ≡ false
+counts c = sym (c .before .wrong-entries .ensures) ∙ c .if3 .left
+
+few : (c : tie.Else3) → decode (bytes3 c) .tasks ≤ maxTabled
+few c = counts-within (bytes3 c) (entries-within kind1 (bytes3 c) (counts c)) .tasks
+
+places : (c : tie.Else4) → (anyBelow bodies (wrongLine kind1 (bytes4 c)) || wrongLength kind1 (bytes4 c)) ≡ false
+places c = sym (c .before .wrong-places .ensures) ∙ c .if4 .left
+
+ranges : (c : tie.Else5) → outOfRange kind1 (decode (bytes5 c)) ≡ false
+ranges c = sym (c .before .out-of-range .ensures) ∙ c .if5 .left
+
+passed : (c : tie.Else6) → Passed (bytes6 c)
+passed c =
+    let e5 = c .before .before .before in
+    let e4 = e5 .before .before in
+    let e3 = e4 .before .before in
+    let e2 = e3 .before .before in
+    record {
+      long = long (e2 .before .before);
+      kind = kind e2;
+      counts = counts e3;
+      places = places e4;
+      ranges = ranges e5;
+      doors = sym (c .before .before .lacks-door .ensures) ∙ c .if6 .left;
+    }
+
+light : (c : tie.Else7) → tooLight (decode (bytes6 (c .before))) ≡ false
+light c = sym (c .before .before .too-light .ensures) ∙ c .if7 .left
+
+-- 17 is what striking off leaves
+struck : (e6 : tie.Else6) (t : Bool) → t ≡ not (eqb (strikeOff (decode (bytes6 e6)) (decode (bytes6 e6) .tasks) (full (decode (bytes6 e6) .tasks))) 0) → noOrder (decode (bytes6 e6)) ≡ t
+struck e6 t h = struck-off (decode (bytes6 e6)) (in-range kind1 (decode (bytes6 e6)) (ranges (e6 .before .before .before))) ∙ sym h
+
+-- what a sheet that reads is answered with
+abbrev answer : ℕ → ℕ → Answer Counts
+answer n p = accepted (record { tasks = n; points = p })
+
+-- ---- the answers
+
+too-short-requires : tie.Need-too-short-requires
+too-short-requires c κs = search needs
+
+returns : tie.Need-returns
+unfolding unlessFault readSheet
+returns c = rw (sym (c .before .too-short .ensures) ∙ c .if1 .taken)
+
+wrong-kind-requires : tie.Need-wrong-kind-requires
+wrong-kind-requires c κs = search needs
+
+returns-2 : tie.Need-returns-2
+unfolding unlessFault readSheet
+returns-2 c = rw (long (c .before .before), sym (c .before .wrong-kind .ensures) ∙ c .if2 .taken)
+
+wrong-entries-requires : tie.Need-wrong-entries-requires
+wrong-entries-requires c κs = search needs
+
+returns-3 : tie.Need-returns-3
+unfolding unlessFault readSheet
+returns-3 c =
+    let e2 = c .before .before in
+    rw (long (e2 .before .before), kind e2, sym (c .before .wrong-entries .ensures) ∙ c .if3 .taken)
+
+wrong-places-requires : tie.Need-wrong-places-requires
+wrong-places-requires c κs = search needs
+
+returns-4 : tie.Need-returns-4
+unfolding unlessFault readSheet
+returns-4 c =
+    let e3 = c .before .before in
+    let e2 = e3 .before .before in
+    rw (long (e2 .before .before), kind e2, counts e3, sym (c .before .wrong-places .ensures) ∙ c .if4 .taken)
+
+out-of-range-requires : tie.Need-out-of-range-requires
+out-of-range-requires c κs = few (c .before .before)
+
+returns-5 : tie.Need-returns-5
+unfolding unlessFault readSheet
+returns-5 c =
+    let e4 = c .before .before in
+    let e3 = e4 .before .before in
+    let e2 = e3 .before .before in
+    rw (long (e2 .before .before), kind e2, counts e3, places e4, sym (c .before .out-of-range .ensures) ∙ c .if5 .taken)
+
+lacks-door-requires : tie.Need-lacks-door-requires
+lacks-door-requires c κs = search needs
+
+too-light-requires : tie.Need-too-light-requires
+too-light-requires c κs = search needs
+
+returns-6 : tie.Need-returns-6
+unfolding unlessFault readSheet
+returns-6 c =
+    let e5 = c .before .before .before in
+    let e4 = e5 .before .before in
+    let e3 = e4 .before .before in
+    let e2 = e3 .before .before in
+    rw (long (e2 .before .before), kind e2, counts e3, places e4, ranges e5, sym (c .before .before .lacks-door .ensures) ∙ c .if6 .taken)
+
+returns-7 : tie.Need-returns-7
+unfolding unlessFault readSheet
+returns-7 c = sym (passed-then (bytes6 (c .before)) _ (passed (c .before)) ∙ rw (sym (c .before .before .too-light .ensures) ∙ c .if7 .taken))
+
+no-order-requires : tie.Need-no-order-requires
+no-order-requires c κs = few (c .before .before .before .before .before .before .before .before)
+
+returns-8 : tie.Need-returns-8
+unfolding unlessFault readSheet
+returns-8 c =
+    let e7 = c .before .before in
+    sym (light-then (bytes6 (e7 .before)) _ (passed (e7 .before)) (light e7) ∙ rw (struck (e7 .before) _ (c .before .no-order .ensures) ∙ c .if8 .taken))
+
+tasks-requires : tie.Need-tasks-requires
+tasks-requires c κs = search needs
+
+points-requires : tie.Need-points-requires
+points-requires c κs = search needs
+
+returns-9 : tie.Need-returns-9
+unfolding readSheet
+returns-9 c =
+    let e8 = c .before .before in
+    let e7 = e8 .before .before in
+    let e6 = e7 .before in
+    let reads : Reads (bytes6 e6) = record {
+      passed-tests = passed e6;
+      light = light e7;
+      ordered = struck e6 _ (e8 .before .no-order .ensures) ∙ e8 .if8 .left;
+    } in
+    ap₂ answer (c .before .tasks .ensures) (c .points .ensures) ∙ sym (reads-then (bytes6 e6) _ reads)
+
+pub read-spec : {M : Type 1} → statement M
+read-spec =
+    tie.close
+    (tie.spec
+    too-short-requires
+    returns
+    wrong-kind-requires
+    returns-2
+    wrong-entries-requires
+    returns-3
+    wrong-places-requires
+    returns-4
+    out-of-range-requires
+    returns-5
+    lacks-door-requires
+    too-light-requires
+    returns-6
+    returns-7
+    no-order-requires
+    returns-8
+    tasks-requires
+    points-requires
+    returns-9)

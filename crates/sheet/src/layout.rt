@@ -1,0 +1,100 @@
+// Faults 10 to 13: the head of a sheet, its contents lines and its length.
+ghost use mathlib.Core.Path.{_≡_};
+ghost use mathlib.Core.Bool.{_||_};
+ghost use Prim.Native.Nat.{_<_};
+ghost use Rattle.model.specs.Folds.{anyBelow};
+ghost use Rattle.model.specs.SheetLayout.{kind1, bodies, distancesBody, entryBytes, bodyAt};
+ghost use Rattle.model.specs.Faults.{tooShort, wrongKind, wrongEntries, wrongLine, wrongLength};
+use field::entries;
+
+const KIND: u16 = 1;
+
+const BODIES: u16 = 7;
+
+const POINTS_BODY: u16 = 5;
+
+const DISTANCES_BODY: u16 = 6;
+
+// The fewest and the most entries of each body before the distances.
+const FEWEST: [u16; 6] = [1, 1, 1, 0, 0, 1];
+
+const MOST: [u16; 6] = [12, 64, 16, 32, 32, 64];
+
+// The bytes of an entry of each body.
+const SIZES: [u32; 7] = [
+    field::TASK_BYTES,
+    field::DOOR_BYTES,
+    field::START_BYTES,
+    field::PAIR_BYTES,
+    field::RULE_BYTES,
+    field::POINT_BYTES,
+    field::DISTANCE_BYTES,
+];
+
+pub(crate) fn too_short(s: &[u8]) -> bool
+    ensures { λ r. ⌜ r ≡ tooShort (now (s .entry)) ⌝ }
+{
+    s.len() < field::HEAD_BYTES as usize
+}
+
+pub(crate) fn wrong_kind(s: &[u8]) -> bool
+    ensures { λ r. ⌜ r ≡ wrongKind kind1 (now (s .entry)) ⌝ }
+{
+    number::read_u16(s, 0) != KIND
+}
+
+// Whether the number of entries of body i, one before the distances, is outside its limits.
+fn wrong_count(s: &[u8], i: u16) -> bool
+    requires { ⌜ i < distancesBody ⌝ }
+    ensures { λ r. ⌜ r ≡ wrongEntries kind1 (now (s .entry)) i ⌝ }
+{
+    let count = entries(s, i);
+    let at = i as usize;
+    (count < FEWEST[at]) | (MOST[at] < count)
+}
+
+// There are as many distances as pairs of points; the other bodies have their limits.
+pub(crate) fn wrong_entries(s: &[u8]) -> bool
+    ensures { λ r. ⌜ r ≡ anyBelow bodies (wrongEntries kind1 (now (s .entry))) ⌝ }
+{
+    let mut i: u16 = 0;
+    while i < DISTANCES_BODY {
+        if wrong_count(s, i) {
+            return true;
+        }
+        i = i + 1;
+    }
+    let points = entries(s, POINTS_BODY) as u32;
+    entries(s, DISTANCES_BODY) as u32 != points * points
+}
+
+fn entry_bytes(i: u16) -> u32
+    requires { ⌜ i < bodies ⌝ }
+    ensures { λ r. ⌜ r ≡ entryBytes kind1 i ⌝ }
+{
+    SIZES[i as usize]
+}
+
+// Whether contents line i has a wrong body number or offset, where the body is at a place.
+fn wrong_line(s: &[u8], i: u16, at: usize) -> bool
+    requires { ⌜ (i < bodies) × (at ≡ bodyAt kind1 (now s) i) ⌝ }
+    ensures { λ r. ⌜ r ≡ wrongLine kind1 (now (s .entry)) i ⌝ }
+{
+    (field::line_body(s, i) != i + 1) | (field::line_offset(s, i) as usize != at)
+}
+
+// The place of each body is summed up from the numbers of entries.
+pub(crate) fn wrong_places(s: &[u8]) -> bool
+    ensures { λ r. ⌜ r ≡ (anyBelow bodies (wrongLine kind1 (now (s .entry))) || wrongLength kind1 (now (s .entry))) ⌝ }
+{
+    let mut at = field::HEAD_BYTES as usize;
+    let mut i: u16 = 0;
+    while i < BODIES {
+        if wrong_line(s, i, at) {
+            return true;
+        }
+        at = at + entries(s, i) as usize * entry_bytes(i) as usize;
+        i = i + 1;
+    }
+    s.len() != at
+}

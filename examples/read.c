@@ -1,0 +1,26 @@
+/* Reads a task sheet from standard input and prints its numbers of tasks and points, or the number of its refusal.
+ *
+ *     cc -I include examples/read.c target/staticlib/libvanplan.a -o target/read
+ *     target/read < examples/a.sheet
+ */
+#include <inttypes.h>
+#include <stdio.h>
+
+#include "vanplan.h"
+
+/* The longest sheet has 9,638 bytes; one byte more shows that the input is longer. */
+static uint8_t sheet[9639];
+
+int main(void)
+{
+    uint64_t tasks, points;
+    size_t len = fread(sheet, 1, sizeof sheet, stdin);
+    uint32_t refused = vanplan_read(sheet, len, &tasks, &points);
+
+    if (refused) {
+        printf("refused %" PRIu32 "\n", refused);
+        return 1;
+    }
+    printf("tasks %" PRIu64 " points %" PRIu64 "\n", tasks, points);
+    return 0;
+}

@@ -1,0 +1,102 @@
+//! The comparison of the product with the plain reading, and tallies of the numbers that were met.
+
+use super::reading::{faults, reading, NUMBERS};
+use std::fmt::Arguments;
+use vanplan::{read, read_into, Counts, Refusal, ACCEPTED};
+
+/// What stands in the two lent cells before a call: no number of tasks or points, in either half.
+const LENT: (u64, u64) = (0xdead_beef_0bad_f00d, 0x0123_4567_89ab_cdef);
+
+/// Compares one reading by the product, lent cells included, with the plain reading, and returns the answer.
+pub fn check(sheet: &[u8], case: Arguments) -> u32 {
+    let due = reading(sheet);
+    let (mut tasks, mut points) = LENT;
+    let number = read_into(sheet, &mut tasks, &mut points);
+    let answered = (number, tasks, points);
+    let (due_answer, due_result) = match due {
+        Ok((n, p)) => (
+            (ACCEPTED, n, p),
+            Ok(Counts {
+                tasks: n,
+                points: p,
+            }),
+        ),
+        Err(number) => ((number, LENT.0, LENT.1), Err(Refusal(number))),
+    };
+    assert_eq!(answered, due_answer, "read_into, {case}: {}", hex(sheet));
+    assert_eq!(read(sheet), due_result, "read, {case}: {}", hex(sheet));
+    number
+}
+
+/// Like `check`, and the number is told beforehand; 0 stands for a sheet that reads.
+pub fn expect(number: u32, sheet: &[u8], case: Arguments) {
+    assert_eq!(check(sheet, case), number, "{case}: {}", hex(sheet));
+}
+
+/// The beginning of a sheet as hexadecimal, and its length.
+fn hex(sheet: &[u8]) -> String {
+    const SHOWN: usize = 400;
+    let digits: String = sheet
+        .iter()
+        .take(SHOWN)
+        .map(|byte| format!("{byte:02x}"))
+        .collect();
+    let more = if sheet.len() > SHOWN { "..." } else { "" };
+    format!("{} bytes {digits}{more}", sheet.len())
+}
+
+/// How often each number was answered, 0 for sheets that read; and how often it was the only one to apply, or the
+/// lowest of several.
+#[derive(Debug, Default)]
+pub struct Tally {
+    met: [usize; 18],
+    alone: [usize; 18],
+    with_higher: [usize; 18],
+}
+
+impl Tally {
+    pub fn check(&mut self, sheet: &[u8], case: Arguments) -> u32 {
+        let number = check(sheet, case);
+        self.met[number as usize] += 1;
+        number
+    }
+
+    /// Like `check`, and tallies also whether the number came alone.
+    pub fn check_company(&mut self, sheet: &[u8], case: Arguments) {
+        let number = self.check(sheet, case) as usize;
+        match faults(sheet).len() {
+            0 => {}
+            1 => self.alone[number] += 1,
+            _ => self.with_higher[number] += 1,
+        }
+    }
+
+    /// Each of these numbers was answered so often or more, and no other number was answered at all.
+    pub fn assert_met(&self, numbers: &[u32], least: usize) {
+        assert_tallied("answered", &self.met, numbers, least);
+    }
+
+    /// Each of these numbers came alone so often or more, and no other number came alone.
+    pub fn assert_alone(&self, numbers: &[u32], least: usize) {
+        assert_tallied("alone", &self.alone, numbers, least);
+    }
+
+    /// Each of these numbers came with a higher one so often or more, and no other number did.
+    pub fn assert_with_higher(&self, numbers: &[u32], least: usize) {
+        assert_tallied("with a higher number", &self.with_higher, numbers, least);
+    }
+}
+
+fn assert_tallied(how: &str, tally: &[usize; 18], numbers: &[u32], least: usize) {
+    for number in std::iter::once(ACCEPTED).chain(NUMBERS) {
+        let times = tally[number as usize];
+        if numbers.contains(&number) {
+            assert!(
+                times >= least,
+                "{number} {how}: {times} times, fewer than {least}: {tally:?}"
+            );
+        } else {
+            assert_eq!(times, 0, "{number} {how}, but cannot be: {tally:?}");
+        }
+    }
+}

@@ -1,0 +1,141 @@
+//! Sheets that are given and not drawn at random: sheet A of document 01, and plain sheets of given sizes.
+
+use super::sheet::{Door, Rule, Sheet};
+
+/// Sheet A: two tasks, three points, 102 bytes.
+pub fn sheet_a() -> Sheet {
+    Sheet {
+        kind: 1,
+        end_load: 10,
+        tasks: vec![5, -3],
+        doors: vec![
+            Door {
+                task: 0,
+                arrival: 1,
+                departure: 1,
+                work: 4,
+            },
+            Door {
+                task: 1,
+                arrival: 2,
+                departure: 2,
+                work: 6,
+            },
+        ],
+        starts: vec![0],
+        pairs: vec![],
+        rules: vec![],
+        points: vec![0, 20, 30],
+        distances: vec![0, 2, 3, 2, 0, 4, 3, 4, 0],
+    }
+}
+
+/// Sheet A with pairs.
+pub fn sheet_a_with_pairs(pairs: &[(u16, u16)]) -> Sheet {
+    Sheet {
+        pairs: pairs.to_vec(),
+        ..sheet_a()
+    }
+}
+
+/// Sheet A with one more access rule, on door 0.
+pub fn sheet_a_with_rule(watched: u16, least: u16, charge: u32) -> Sheet {
+    let rule = Rule {
+        door: 0,
+        watched,
+        least,
+        charge,
+    };
+    Sheet {
+        rules: vec![rule],
+        ..sheet_a()
+    }
+}
+
+/// Sheet A with as many tasks as asked, at least two; each new one has a door and changes no load.
+pub fn sheet_a_with_tasks(tasks: usize) -> Sheet {
+    let mut sheet = sheet_a();
+    for task in 2..tasks {
+        sheet.tasks.push(0);
+        sheet.doors.push(Door {
+            task: task as u16,
+            arrival: 0,
+            departure: 2,
+            work: 1,
+        });
+    }
+    sheet
+}
+
+/// The number of entries of each body.
+#[derive(Clone, Copy, Debug)]
+pub struct Entries {
+    pub tasks: usize,
+    pub doors: usize,
+    pub starts: usize,
+    pub pairs: usize,
+    pub rules: usize,
+    pub points: usize,
+    pub distances: usize,
+}
+
+/// The fewest entries of each body: 66 bytes.
+pub const FEWEST: Entries = Entries {
+    tasks: 1,
+    doors: 1,
+    starts: 1,
+    pairs: 0,
+    rules: 0,
+    points: 1,
+    distances: 1,
+};
+
+/// The most entries of each body: 9,638 bytes.
+pub const MOST: Entries = Entries {
+    tasks: 12,
+    doors: 64,
+    starts: 16,
+    pairs: 32,
+    rules: 32,
+    points: 64,
+    distances: 64 * 64,
+};
+
+/// Numbers of entries strictly between the fewest and the most, with two doors or more for each task.
+pub const MIDDLE: Entries = Entries {
+    tasks: 5,
+    doors: 11,
+    starts: 3,
+    pairs: 4,
+    rules: 3,
+    points: 3,
+    distances: 3 * 3,
+};
+
+/// A sheet with these numbers of entries and nothing in it out of range, if there are two tasks and a point or more:
+/// the doors serve the tasks in turn, and every pair is (0, 1).
+pub fn plain(entries: Entries) -> Sheet {
+    let door = |i: usize| Door {
+        task: (i % entries.tasks.max(1)) as u16,
+        arrival: 0,
+        departure: 0,
+        work: 7,
+    };
+    let rule = Rule {
+        door: 0,
+        watched: 1,
+        least: 1,
+        charge: 9,
+    };
+    Sheet {
+        kind: 1,
+        end_load: 100,
+        tasks: vec![1; entries.tasks],
+        doors: (0..entries.doors).map(door).collect(),
+        starts: vec![0; entries.starts],
+        pairs: vec![(0, 1); entries.pairs],
+        rules: vec![rule; entries.rules],
+        points: vec![3; entries.points],
+        distances: vec![5; entries.distances],
+    }
+}

@@ -1,0 +1,129 @@
+//! Random sheets that read: every number is drawn from the whole range that document 01 allows it.
+
+use super::rng::Rng;
+use super::sheet::{Door, Rule, Sheet};
+
+/// The fewest and most entries that a random sheet gets; at least one door for each task comes first.
+#[derive(Clone, Copy)]
+pub struct Size {
+    pub tasks: (usize, usize),
+    pub more_doors: (usize, usize),
+    pub starts: (usize, usize),
+    pub pairs: (usize, usize),
+    pub rules: (usize, usize),
+    pub points: (usize, usize),
+}
+
+/// Few tasks, so that every order of them is soon tried.
+pub const SMALL: Size = Size {
+    tasks: (1, 5),
+    more_doors: (0, 3),
+    starts: (1, 3),
+    pairs: (0, 4),
+    rules: (0, 3),
+    points: (1, 4),
+};
+
+/// As much as the layout allows.
+pub const ANY: Size = Size {
+    tasks: (1, 12),
+    more_doors: (0, 52),
+    starts: (1, 16),
+    pairs: (0, 32),
+    rules: (0, 32),
+    points: (1, 64),
+};
+
+/// Small, with something in every body that a fault may be put into.
+pub const ROOMY: Size = Size {
+    tasks: (2, 6),
+    more_doors: (2, 6),
+    starts: (1, 4),
+    pairs: (0, 4),
+    rules: (1, 4),
+    points: (2, 5),
+};
+
+pub fn valid(rng: &mut Rng, size: Size) -> Sheet {
+    let n = draw(rng, size.tasks);
+    let p = draw(rng, size.points);
+    let doors = doors(rng, n, p, size.more_doors);
+    let mut sheet = Sheet {
+        kind: 1,
+        end_load: 0,
+        tasks: loads(rng, n),
+        starts: many(rng, size.starts, |rng| rng.below(p) as u16),
+        pairs: pairs(rng, n, size.pairs),
+        rules: many(rng, size.rules, |rng| rule(rng, n, doors.len())),
+        doors,
+        points: (0..p).map(|_| rng.u32()).collect(),
+        distances: (0..p * p).map(|_| rng.u16()).collect(),
+    };
+    let lightest = sheet.picked_up() as usize;
+    sheet.end_load = match rng.below(4) {
+        0 => lightest,
+        1 => usize::from(u16::MAX),
+        _ => rng.between(lightest, u16::MAX.into()),
+    } as u16;
+    sheet
+}
+
+fn draw(rng: &mut Rng, (fewest, most): (usize, usize)) -> usize {
+    rng.between(fewest, most)
+}
+
+fn many<T>(rng: &mut Rng, count: (usize, usize), one: impl Fn(&mut Rng) -> T) -> Vec<T> {
+    (0..draw(rng, count)).map(|_| one(rng)).collect()
+}
+
+/// Load changes of either sign; the pick-ups together stay within the greatest end load.
+fn loads(rng: &mut Rng, n: usize) -> Vec<i16> {
+    let mut left = i64::from(u16::MAX);
+    let mut loads = Vec::new();
+    for _ in 0..n {
+        let w = match rng.below(4) {
+            0 => rng.u16() as i16,
+            1 => rng.pick(&[0, 1, -1, i16::MAX, i16::MIN]),
+            _ => rng.between(0, 2_000) as i16 - 1_000,
+        };
+        let w = if left + i64::from(w) < 0 { 0 } else { w };
+        left += i64::from(w).min(0);
+        loads.push(w);
+    }
+    loads
+}
+
+fn doors(rng: &mut Rng, n: usize, p: usize, more: (usize, usize)) -> Vec<Door> {
+    let mut tasks = rng.order(n);
+    let more = many(rng, more, |rng| rng.below(n) as u16);
+    tasks.extend(more);
+    rng.shuffle(&mut tasks);
+    let door = |task| Door {
+        task,
+        arrival: rng.below(p) as u16,
+        departure: rng.below(p) as u16,
+        work: rng.u32(),
+    };
+    tasks.into_iter().map(door).collect()
+}
+
+/// Pairs that one random order of the tasks keeps; a single task has none.
+pub fn pairs(rng: &mut Rng, n: usize, count: (usize, usize)) -> Vec<(u16, u16)> {
+    if n < 2 {
+        return Vec::new();
+    }
+    let order = rng.order(n);
+    many(rng, count, |rng| {
+        let after = rng.between(1, n - 1);
+        (order[rng.below(after)], order[after])
+    })
+}
+
+fn rule(rng: &mut Rng, n: usize, doors: usize) -> Rule {
+    Rule {
+        door: rng.below(doors) as u16,
+        watched: rng.below(1 << n) as u16,
+        least: rng.between(1, 12) as u16,
+        charge: rng.u32(),
+    }
+}
