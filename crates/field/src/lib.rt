@@ -2,11 +2,28 @@
 ghost use mathlib.Core.Path.{_≡_};
 ghost use Prim.Native.Nat.{_+_, _*_};
 ghost use Rattle.model.specs.Bytes.{numberAt};
-ghost use Rattle.model.specs.SheetLayout.{decode, lineBody, lineOffset, entries};
+ghost use Rattle.model.specs.SheetLayout.{decode, lineAt, lineBody, lineOffset, entries};
 ghost use Rattle.field.specs.Places.{placesOf};
 use number::read_u16;
 use number::read_u32;
 use number::to_i16;
+
+// The bodies, counted from 0.
+pub const TASKS_BODY: u16 = 0;
+
+pub const DOORS_BODY: u16 = 1;
+
+pub const STARTS_BODY: u16 = 2;
+
+pub const PAIRS_BODY: u16 = 3;
+
+pub const RULES_BODY: u16 = 4;
+
+pub const POINTS_BODY: u16 = 5;
+
+pub const DISTANCES_BODY: u16 = 6;
+
+pub const BODIES: u16 = 7;
 
 // The bytes before the first body, and those of an entry of each body.
 pub const HEAD_BYTES: u32 = 46;
@@ -25,60 +42,72 @@ pub const POINT_BYTES: u32 = 4;
 
 pub const DISTANCE_BYTES: u32 = 2;
 
+pub fn kind(s: &[u8]) -> u16
+    ensures { λ r. ⌜ r ≡ numberAt 2 (now (s .entry)) 0 ⌝ }
+{
+    read_u16(s, 0)
+}
+
+fn line_at(i: u16) -> usize
+    ensures { λ r. ⌜ r ≡ lineAt i ⌝ }
+{
+    4 + 6 * i as usize
+}
+
 // Of contents line i: the body number, the offset and the number of entries that it states.
 pub fn line_body(s: &[u8], i: u16) -> u16
     ensures { λ r. ⌜ r ≡ lineBody (now (s .entry)) i ⌝ }
 {
-    read_u16(s, 4 + 6 * i as usize)
+    read_u16(s, line_at(i))
 }
 
 pub fn line_offset(s: &[u8], i: u16) -> u16
     ensures { λ r. ⌜ r ≡ lineOffset (now (s .entry)) i ⌝ }
 {
-    read_u16(s, 4 + 6 * i as usize + 2)
+    read_u16(s, line_at(i) + 2)
 }
 
 pub fn entries(s: &[u8], i: u16) -> u16
     ensures { λ r. ⌜ r ≡ entries (now (s .entry)) i ⌝ }
 {
-    read_u16(s, 4 + 6 * i as usize + 4)
+    read_u16(s, line_at(i) + 4)
 }
 
 // The numbers of entries.
 pub fn tasks(s: &[u8]) -> u16
     ensures { λ r. ⌜ r ≡ decode (now (s .entry)) .tasks ⌝ }
 {
-    entries(s, 0)
+    entries(s, TASKS_BODY)
 }
 
 pub fn doors(s: &[u8]) -> u16
     ensures { λ r. ⌜ r ≡ decode (now (s .entry)) .doors ⌝ }
 {
-    entries(s, 1)
+    entries(s, DOORS_BODY)
 }
 
 pub fn starts(s: &[u8]) -> u16
     ensures { λ r. ⌜ r ≡ decode (now (s .entry)) .starts ⌝ }
 {
-    entries(s, 2)
+    entries(s, STARTS_BODY)
 }
 
 pub fn pairs(s: &[u8]) -> u16
     ensures { λ r. ⌜ r ≡ decode (now (s .entry)) .pairs ⌝ }
 {
-    entries(s, 3)
+    entries(s, PAIRS_BODY)
 }
 
 pub fn rules(s: &[u8]) -> u16
     ensures { λ r. ⌜ r ≡ decode (now (s .entry)) .rules ⌝ }
 {
-    entries(s, 4)
+    entries(s, RULES_BODY)
 }
 
 pub fn points(s: &[u8]) -> u16
     ensures { λ r. ⌜ r ≡ decode (now (s .entry)) .points ⌝ }
 {
-    entries(s, 5)
+    entries(s, POINTS_BODY)
 }
 
 // The places of the bodies behind the first, each where the one before ends.
@@ -112,7 +141,7 @@ impl Places {
     }
 }
 
-// A number in entry e of the body at a place, whose entries have so many bytes; so many of these stand before the number.
+// The number of two bytes, or of four, in entry e of the body at byte `at`, whose entries have `size` bytes, `before` of them before the number.
 fn field2(s: &[u8], at: u32, e: u16, size: u32, before: u16) -> u16
     ensures { λ r. ⌜ r ≡ numberAt 2 (now (s .entry)) (at + e * size + before) ⌝ }
 {

@@ -16,6 +16,11 @@ pub sum-cong : (n : ℕ) (f g : ℕ → ℕ) → ((j : ℕ) → j < n → f j �
 sum-cong zero f g h = refl
 sum-cong (suc n) f g h = ap₂ _+_ (sum-cong n f g (λ j l. h j (omega arith))) (h n (omega arith))
 
+-- the first apart from the others
+pub sum-first : (n : ℕ) (f : ℕ → ℕ) → sumBelow (suc n) f ≡ f 0 + sumBelow n (λ j. f (suc j))
+sum-first zero f = omega arith
+sum-first (suc n) f = omega (arith, sum-first n f)
+
 pub sum-none : (n : ℕ) (f : ℕ → ℕ) → ((j : ℕ) → j < n → f j ≡ 0) → sumBelow n f ≡ 0
 sum-none zero f h = refl
 sum-none (suc n) f h = omega (arith, sum-none n f (λ j l. h j (omega arith)), h n (omega arith))

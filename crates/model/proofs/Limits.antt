@@ -3,10 +3,12 @@ use mathlib.Core.Path.{_≡_}
 use mathlib.Core.Bool.{false}
 use mathlib.Core.List.{List}
 use Prim.Native.Nat.{ℕ, _≤_, _<_}
+use native.Mathlib.Omega.{arith}
 use lib.Dec.{lit<}
 use lib.ListN.{getD}
 use borrow.Author.Tests.{not-false}
 use Rattle.model.specs.Folds.{anyBelow}
+use Rattle.model.specs.TaskList.{maxListed}
 use Rattle.model.specs.Sheet.{Sheet}
 use Rattle.model.specs.SheetLayout.{Layout, maxTasks, maxDoors, maxStarts, maxPairs, maxRules, maxPoints, tasksBody, doorsBody, startsBody, pairsBody, rulesBody, pointsBody, bodies, kind1, entries, decodeBy, decode}
 use Rattle.model.specs.Faults.{wrongEntries}
@@ -32,6 +34,10 @@ pub record CountsWithin (S : Sheet) : Type 0 where
   pub rules : S .rules ≤ maxRules
   pub one-point : 1 ≤ S .points
   pub points : S .points ≤ maxPoints
+
+-- as many tasks as the sheet may have are tasks that the code has a power of two for
+pub tasks-listed : (n : ℕ) → n ≤ maxTasks → n ≤ maxListed
+tasks-listed n h = omega arith
 
 pub counts-within : (b : List ℕ) → EntriesWithin kind1 b → CountsWithin (decode b)
 unfolding decode decodeBy kind1

@@ -6,10 +6,12 @@ use Prim.Native.Nat.{ℕ, zero, suc, _+_, _-_, _/_, _%_, _^_, _≤_, _<_}
 use native.Mathlib.Nat.{div-one, div-div-eq-div-mul, pow-succ', mod-lt, zero-lt-suc, zero-div, add-zero}
 use native.Mathlib.Decide.{le-ind}
 use native.Mathlib.Omega.{arith}
+use lib.Dec.{leb}
 use lib.Pow.{pow-pos, pow-mono}
-use borrow.Author.Tests.{eqb-true, eqb-false, eq-eqb, le-leb}
+use borrow.Author.Tests.{eqb-true, eqb-false, eq-eqb, le-leb, lt-ltb}
 use Rattle.model.specs.Folds.{sumBelow, countBelow}
-use Rattle.model.specs.TaskList.{bit, member, with, without, full, size, watchedIn, maxTabled, listsOf}
+use Rattle.model.specs.TaskList.{bit, member, with, without, full, size, watchedIn, withIn, maxListed, listsOf, fullOf}
+use Rattle.model.proofs.Tests.{tested}
 use Rattle.model.proofs.Folds.{sum-cong, sum-none, sum-more, sum-zero, sum-le}
 
 -- ---- bits
@@ -213,7 +215,20 @@ pub watched-below : (n m W K : ℕ) → W < 2 ^ n → n ≤ m → watchedIn m W 
 unfolding watchedIn countBelow
 watched-below n m W K l h = le-ind (λ (k : ℕ). watchedIn k W K ≡ watchedIn n W K) refl (λ k a e. rw (bit-above n k W l a, add-zero) e) m h
 
--- as far as the table goes it has 2 to the power n
-pub lists-of : (n : ℕ) → n ≤ maxTabled → listsOf n ≡ 2 ^ n
+-- a task below the width is joined
+pub with-in : (w K j : ℕ) → j < w → withIn w K j ≡ with K j
+unfolding withIn
+with-in w K j h = rw lt-ltb
+
+-- up to the limit there are 2 to the power n lists, and the full one is the last of them
+pub lists-of : (n : ℕ) → n ≤ maxListed → listsOf n ≡ 2 ^ n
 unfolding listsOf
 lists-of n h = rw le-leb
+
+pub full-of : (n : ℕ) → n ≤ maxListed → fullOf n ≡ full n
+unfolding fullOf
+full-of n h = rw le-leb
+
+pub full-lists : (n : ℕ) → listsOf n - 1 ≡ fullOf n
+unfolding listsOf fullOf full
+full-lists n = ⊎-elim (λ (w : leb n maxListed ≡ true). rw w) (λ (w : leb n maxListed ≡ false). rw w) (tested (leb n maxListed))

@@ -1,13 +1,13 @@
 -- Tests that compute, and the facts that they stand for. Assumes nothing.
 use mathlib.Core.Path.{_≡_, refl, sym, ap, ap₂, _∙_}
 use mathlib.Core.Logic.{_≢_, _⊎_, inl, inr, ⊎-elim}
-use mathlib.Core.Bool.{Bool, true, false, _&&_, _||_, false≢true, true≢false}
+use mathlib.Core.Bool.{Bool, true, false, not, _&&_, _||_, false≢true, true≢false}
 use mathlib.Core.List.{List, [], _∷_}
 use Prim.Native.Nat.{ℕ, zero, suc, _+_, _≤_, _<_}
 use native.Mathlib.Omega.{arith}
 use native.Mathlib.Numerals.{add-one}
-use lib.Dec.{eqb, leb}
-use borrow.Author.Tests.{eqb-true, eqb-false, eq-eqb, leb-true, le-leb}
+use lib.Dec.{eqb, ltb, leb}
+use borrow.Author.Tests.{eqb-true, eqb-false, eq-eqb, leb-true, leb-false, le-leb, lt-ltb, le-ltb}
 use Rattle.model.specs.Folds.{allBelow, anyBelow, allIn, sameList, isBetween}
 
 -- a test, with its outcome
@@ -48,6 +48,10 @@ or-right false b h = h
 pub or-neither : {a b : Bool} → a ≡ false → b ≡ false → (a || b) ≡ false
 or-neither p q = ap₂ _||_ p q
 
+-- behind a test that fails another decides
+pub or-last : (a t r : Bool) → a ≡ false → r ≡ t → r ≡ (a || t)
+or-last a t r h e = rw h e
+
 pub and-left-comm : (a b c : Bool) → (a && (b && c)) ≡ (b && (a && c))
 and-left-comm true b c = refl
 and-left-comm false true c = refl
@@ -75,6 +79,26 @@ between-true lo hi x h = (leb-true lo x (and-left (leb lo x) (leb x hi) h), leb-
 pub between-is : (lo hi x : ℕ) → lo ≤ x → x ≤ hi → isBetween lo hi x ≡ true
 unfolding isBetween
 between-is lo hi x l h = and-both (le-leb lo x l) (le-leb x hi h)
+
+-- outside a range, as two comparisons; and outside a range of one number
+beyond : (a b : ℕ) → ltb b a ≡ not (leb a b)
+beyond a b = ⊎-elim
+    (λ (w : leb a b ≡ true). rw (w, le-ltb b a (leb-true a b w)))
+    (λ (w : leb a b ≡ false). rw (w, lt-ltb b a (leb-false a b w)))
+    (tested (leb a b))
+
+not-and : (a b : Bool) → (not a || not b) ≡ not (a && b)
+not-and true b = refl
+not-and false b = refl
+
+pub outside : (lo hi x : ℕ) → (ltb x lo || ltb hi x) ≡ not (isBetween lo hi x)
+unfolding isBetween
+outside lo hi x = ap₂ _||_ (beyond lo x) (beyond x hi) ∙ not-and (leb lo x) (leb x hi)
+
+pub exactly : (n x : ℕ) → not (eqb x n) ≡ not (isBetween n n x)
+exactly n x = ap not (same-test _ _
+    (λ e. let q = eqb-true x n e in between-is n n x (omega arith) (omega arith))
+    (λ e. let q = between-true n n x e in eq-eqb x n (omega arith)))
 
 -- ---- every number below n, some number below n
 

@@ -6,7 +6,7 @@ use lib.Dec.{eqb}
 use lib.ListN.{length, take, set}
 use Rattle.model.specs.Folds.{sameList}
 use Rattle.model.specs.Plans.{roundCost}
-use Rattle.model.specs.Answer.{Answer, refused, accepted}
+use Rattle.model.specs.Answer.{Answer, refused, accepted, status, placed}
 use Rattle.model.specs.SheetLayout.{maxPoints, kind1, sheetLength, decode}
 use Rattle.model.specs.Faults.{Counts, readSheet}
 use Rattle.model.specs.Validating.{validate}
@@ -229,6 +229,12 @@ checkFurther =
     -- the shortest sheet has 66 bytes, the longest 9,638
     && eqb (sheetLength kind1 (kind1 .fewest 1)) 66
     && eqb (sheetLength kind1 (kind1 .most maxPoints)) 9638
+    -- through the C interface: 0 with N and P for A, and 16 with what was there before where A has E 2
+    && eqb (status (readSheet sheetA)) 0
+    && eqb (placed (λ (c : Counts). c .tasks) (readSheet sheetA) 7) 2
+    && eqb (placed (λ (c : Counts). c .points) (readSheet sheetA) 7) 3
+    && eqb (status (readSheet (set sheetA 2 2))) 16
+    && eqb (placed (λ (c : Counts). c .tasks) (readSheet (set sheetA 2 2)) 7) 7
     -- refusals in print
     && sameList (printed ringed) (ascii "refused 17\n")
     && sameList (printed (take 45 sheetA)) (ascii "refused 10\n")

@@ -49,10 +49,14 @@ maskBits = 32
 unfoldable pub withIn : ℕ → ℕ → ℕ → ℕ
 withIn w K j = cond (ltb j w) (with K j) K
 
--- the most tasks that the table of thirteen powers serves (01, Working)
-abbrev pub maxTabled : ℕ
-maxTabled = 12
+-- the most tasks that the code has a power of two for (01, Working)
+abbrev pub maxListed : ℕ
+maxListed = 12
 
--- the number of lists of n tasks, as the table has it; 0 for more tasks than it serves (01, Working)
+-- the number of lists of n tasks, or 0 where n is above that (01, Working)
 unfoldable pub listsOf : ℕ → ℕ
-listsOf n = cond (leb n maxTabled) (2 ^ n) 0
+listsOf n = cond (leb n maxListed) (2 ^ n) 0
+
+-- the full list of n tasks, or the empty one where n is above that (01, Working)
+unfoldable pub fullOf : ℕ → ℕ
+fullOf n = cond (leb n maxListed) (full n) 0

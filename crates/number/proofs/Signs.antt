@@ -1,19 +1,16 @@
 -- Two's complement of two bytes, as the code takes it. Assumes nothing.
 use mathlib.Core.Path.{_≡_, ap, _∙_}
-use mathlib.Core.Logic.{⊎-elim}
-use mathlib.Core.Bool.{true, false}
 use Prim.Native.Nat.{ℕ, _-_, _*_, _≤_, _<_}
 use native.Mathlib.Omega.{arith}
 use native.Mathlib.Nat.{lt-of-lt-of-le}
-use lib.Dec.{ltb, lit≤}
+use lib.Dec.{lit≤}
 use lib.IntN.{ℤ, pos, negsuc, _-ℤ_}
 use lib.Signed.{mag}
 use mir.Syntax.{w16, w32}
 use mir.Val.{toZ, ofZ, SFits}
 use mir.ValLaws.{toZ-ofZ, toZ-pos}
-use borrow.Author.Tests.{lt-ltb, le-ltb, ltb-true, ltb-false}
+use borrow.Author.Tests.{lt-ltb, le-ltb}
 use Rattle.model.specs.Bytes.{signed}
-use Rattle.model.proofs.Tests.{tested}
 
 -- below 32,768 a number stands for itself
 pub signed-small : (n : ℕ) → n < 32768 → toZ w16 n ≡ signed 2 n
@@ -30,6 +27,7 @@ module _ (n : ℕ) (h : 32768 ≤ n) (g : n < 65536) where
   unfolding signed
   low = simp (le-ltb (2 * n) 65536 (omega arith)) (omega arith)
 
+  -- what the code computes fits 32 bits, reads back from them, fits 16, and reads back from these
   pub less-fits : SFits w32 (toZ w32 n -ℤ pos 65536)
   less-fits = rw less (record { sfits = omega (arith, low) })
 
@@ -41,11 +39,3 @@ module _ (n : ℕ) (h : 32768 ≤ n) (g : n < 65536) where
 
   pub signed-large : toZ w16 (ofZ w16 (toZ w32 (ofZ w32 (toZ w32 n -ℤ pos 65536)))) ≡ signed 2 n
   signed-large = rw back (toZ-ofZ w16 (signed 2 n) (record { sfits = low }))
-
--- the integer's bits read back
-pub signed-back : (n : ℕ) (z : ℤ) → n < 65536 → z ≡ signed 2 n → toZ w16 (ofZ w16 z) ≡ signed 2 n
-unfolding signed
-signed-back n z h e = rw e (⊎-elim
-    (λ (w : ltb (2 * n) 65536 ≡ true). rw w (toZ-ofZ w16 (pos n) (record { sfits = omega (arith, ltb-true (2 * n) 65536 w) })))
-    (λ (w : ltb (2 * n) 65536 ≡ false). rw w (toZ-ofZ w16 (negsuc (65535 - n)) (record { sfits = omega (arith, ltb-false (2 * n) 65536 w) })))
-    (tested (ltb (2 * n) 65536)))

@@ -1,34 +1,15 @@
 -- The limits and the places of the bodies, as the code's tables and sums have them. Assumes nothing.
-use mathlib.Core.Path.{_≡_, refl, ap}
-use mathlib.Core.Bool.{Bool, false, not, _||_}
+use mathlib.Core.Path.{_≡_, refl}
+use mathlib.Core.Bool.{not, _||_}
 use mathlib.Core.List.{List, [], _∷_}
 use Prim.Native.Nat.{ℕ, _+_, _*_, _<_}
-use native.Mathlib.Omega.{arith}
 use native.Mathlib.Numerals.{add-one}
 use lib.Dec.{eqb, ltb}
 use lib.ListN.{getD}
-use borrow.Author.Tests.{eq-eqb, eqb-true}
-use Rattle.model.specs.Folds.{isBetween}
-use Rattle.model.specs.SheetLayout.{distancesBody, pointsBody, bodies, kind1, fieldWidth, bytesBefore, entryBytes, entries, bodyAt}
+use Rattle.model.specs.SheetLayout.{distancesBody, pointsBody, kind1, entryBytes, entries, bodyAt}
 use Rattle.model.specs.Faults.{wrongEntries}
-use Rattle.model.proofs.Tests.{same-test, between-true, between-is}
+use Rattle.model.proofs.Tests.{outside, exactly}
 use Rattle.tasklist.proofs.Table.{values}
-use Rattle.sheet.proofs.Searches.{outside}
-
--- limits that are one number
-pub exactly : (n x : ℕ) → not (eqb x n) ≡ not (isBetween n n x)
-exactly n x = ap not (same-test _ _
-    (λ e. let q = eqb-true x n e in between-is n n x (omega arith) (omega arith))
-    (λ e. let q = between-true n n x e in eq-eqb x n (omega arith)))
-
--- the bytes of an entry, from the code's table
-pub sizes : (i : ℕ) → i < bodies → getD (2 ∷ 10 ∷ 2 ∷ 4 ∷ 10 ∷ 4 ∷ 2 ∷ []) i 0 ≡ entryBytes kind1 i
-unfolding kind1 fieldWidth bytesBefore entryBytes
-sizes i l = values (entryBytes kind1) (2 ∷ 10 ∷ 2 ∷ 4 ∷ 10 ∷ 4 ∷ 2 ∷ []) i l refl
-
--- a test behind others of which none passes
-pub or-last : (a t r : Bool) → a ≡ false → r ≡ t → r ≡ (a || t)
-or-last a t r h e = rw h e
 
 -- ---- fault 12
 

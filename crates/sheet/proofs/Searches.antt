@@ -1,14 +1,10 @@
--- A loop that looks for a number which passes a test: its invariant, one turn more, and its two ends. And the test that a number is in a range,
--- as code has it. Assumes nothing.
-use mathlib.Core.Path.{_≡_, refl, sym, ap₂, _∙_}
-use mathlib.Core.Logic.{⊎-elim}
-use mathlib.Core.Bool.{Bool, true, false, not, _&&_, _||_}
+-- A loop that looks for a number which passes a test: its invariant, one turn more, and its two ends. Assumes nothing.
+use mathlib.Core.Path.{_≡_, sym, _∙_}
+use mathlib.Core.Bool.{Bool, true, false}
 use Prim.Native.Nat.{ℕ, _+_, _≤_, _<_}
 use native.Mathlib.Omega.{arith}
-use lib.Dec.{leb, ltb}
-use borrow.Author.Tests.{leb-true, leb-false, lt-ltb, le-ltb}
-use Rattle.model.specs.Folds.{anyBelow, isBetween}
-use Rattle.model.proofs.Tests.{tested, any-true, any-next}
+use Rattle.model.specs.Folds.{anyBelow}
+use Rattle.model.proofs.Tests.{any-true, any-next}
 
 -- of m numbers to try those below i are tried, and none of them passes
 pub record Searched (m : ℕ) (test : ℕ → Bool) (i : ℕ) : Type 0 where
@@ -26,19 +22,3 @@ module _ {m i : ℕ} {test : ℕ → Bool} where
 
 pub found : {m n i : ℕ} {r : Bool} (test : ℕ → Bool) → i < m → m ≡ n → r ≡ test i → r ≡ true → true ≡ anyBelow n test
 found {m} {n} {i} test l e h t = sym (any-true n test i (omega arith) (sym h ∙ t))
-
--- ---- a range
-
-beyond : (a b : ℕ) → ltb b a ≡ not (leb a b)
-beyond a b = ⊎-elim
-    (λ (w : leb a b ≡ true). rw (w, le-ltb b a (leb-true a b w)))
-    (λ (w : leb a b ≡ false). rw (w, lt-ltb b a (leb-false a b w)))
-    (tested (leb a b))
-
-not-and : (a b : Bool) → (not a || not b) ≡ not (a && b)
-not-and true b = refl
-not-and false b = refl
-
-pub outside : (lo hi x : ℕ) → (ltb x lo || ltb hi x) ≡ not (isBetween lo hi x)
-unfolding isBetween
-outside lo hi x = ap₂ _||_ (beyond lo x) (beyond x hi) ∙ not-and (leb lo x) (leb x hi)

@@ -4,7 +4,7 @@ ghost use Rattle.model.specs.Folds.{anyBelow};
 ghost use Rattle.model.specs.SheetLayout.{decode};
 ghost use Rattle.model.specs.Faults.{lacksDoor};
 
-pub(crate) fn lacks_door(s: &[u8]) -> bool
+pub(crate) fn some_lacks_door(s: &[u8]) -> bool
     ensures { λ r. ⌜ r ≡ anyBelow (decode (now (s .entry)) .tasks) (lacksDoor (decode (now (s .entry)))) ⌝ }
 {
     let tasks = field::tasks(s);

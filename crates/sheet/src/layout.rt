@@ -5,15 +5,12 @@ ghost use Prim.Native.Nat.{_<_};
 ghost use Rattle.model.specs.Folds.{anyBelow};
 ghost use Rattle.model.specs.SheetLayout.{kind1, bodies, distancesBody, entryBytes, bodyAt};
 ghost use Rattle.model.specs.Faults.{tooShort, wrongKind, wrongEntries, wrongLine, wrongLength};
+use field::BODIES;
+use field::DISTANCES_BODY;
+use field::POINTS_BODY;
 use field::entries;
 
 const KIND: u16 = 1;
-
-const BODIES: u16 = 7;
-
-const POINTS_BODY: u16 = 5;
-
-const DISTANCES_BODY: u16 = 6;
 
 // The fewest and the most entries of each body before the distances.
 const FEWEST: [u16; 6] = [1, 1, 1, 0, 0, 1];
@@ -40,11 +37,11 @@ pub(crate) fn too_short(s: &[u8]) -> bool
 pub(crate) fn wrong_kind(s: &[u8]) -> bool
     ensures { λ r. ⌜ r ≡ wrongKind kind1 (now (s .entry)) ⌝ }
 {
-    number::read_u16(s, 0) != KIND
+    field::kind(s) != KIND
 }
 
 // Whether the number of entries of body i, one before the distances, is outside its limits.
-fn wrong_count(s: &[u8], i: u16) -> bool
+fn wrong_entries(s: &[u8], i: u16) -> bool
     requires { ⌜ i < distancesBody ⌝ }
     ensures { λ r. ⌜ r ≡ wrongEntries kind1 (now (s .entry)) i ⌝ }
 {
@@ -53,13 +50,13 @@ fn wrong_count(s: &[u8], i: u16) -> bool
     (count < FEWEST[at]) | (MOST[at] < count)
 }
 
-// There are as many distances as pairs of points; the other bodies have their limits.
-pub(crate) fn wrong_entries(s: &[u8]) -> bool
+// There are P times P distances; the other bodies have their limits.
+pub(crate) fn some_wrong_entries(s: &[u8]) -> bool
     ensures { λ r. ⌜ r ≡ anyBelow bodies (wrongEntries kind1 (now (s .entry))) ⌝ }
 {
     let mut i: u16 = 0;
     while i < DISTANCES_BODY {
-        if wrong_count(s, i) {
+        if wrong_entries(s, i) {
             return true;
         }
         i = i + 1;

@@ -27,6 +27,7 @@ pub struct Counts {
     pub points: u16,
 }
 
+// What reading answers.
 pub enum Reading {
     Read(Counts),
     Refused(Fault),
@@ -58,7 +59,7 @@ pub fn read(s: &[u8]) -> Reading
     if layout::wrong_kind(s) {
         return Reading::Refused(Fault::WrongKind);
     }
-    if layout::wrong_entries(s) {
+    if layout::some_wrong_entries(s) {
         return Reading::Refused(Fault::WrongEntries);
     }
     if layout::wrong_places(s) {
@@ -67,7 +68,7 @@ pub fn read(s: &[u8]) -> Reading
     if range::out_of_range(s) {
         return Reading::Refused(Fault::OutOfRange);
     }
-    let lacking = door::lacks_door(s);
+    let lacking = door::some_lacks_door(s);
     let light = light::too_light(s);
     if lacking {
         return Reading::Refused(Fault::NoDoor);
@@ -75,7 +76,7 @@ pub fn read(s: &[u8]) -> Reading
     if light {
         return Reading::Refused(Fault::TooLight);
     }
-    if order::no_order(s) {
+    if order::something_left(s) {
         return Reading::Refused(Fault::NoOrder);
     }
     Reading::Read(Counts {

@@ -3,7 +3,7 @@ ghost use mathlib.Core.Path.{_≡_};
 ghost use mathlib.Core.Bool.{cond, not};
 ghost use Prim.Native.Nat.{_≤_};
 ghost use lib.Dec.{eqb};
-ghost use Rattle.model.specs.TaskList.{maxTabled, without, full};
+ghost use Rattle.model.specs.TaskList.{maxListed, without, full};
 ghost use Rattle.model.specs.SheetLayout.{decode};
 ghost use Rattle.model.specs.Orders.{isFree, canComeFirst, strikeBelow, strikeOff};
 
@@ -50,8 +50,8 @@ fn strike_pass(s: &[u8], k: u32) -> u32
 }
 
 // Whether as many passes as there are tasks leave something of the full list. An empty list stays empty.
-pub(crate) fn no_order(s: &[u8]) -> bool
-    requires { ⌜ decode (now s) .tasks ≤ maxTabled ⌝ }
+pub(crate) fn something_left(s: &[u8]) -> bool
+    requires { ⌜ decode (now s) .tasks ≤ maxListed ⌝ }
     ensures { λ r. ⌜ r ≡ not (eqb (strikeOff (decode (now (s .entry))) (decode (now (s .entry)) .tasks) (full (decode (now (s .entry)) .tasks))) 0) ⌝ }
 {
     let tasks = field::tasks(s);

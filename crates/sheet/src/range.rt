@@ -2,7 +2,7 @@
 ghost use mathlib.Core.Path.{_≡_};
 ghost use Prim.Native.Nat.{_≤_};
 ghost use Rattle.model.specs.Folds.{anyBelow};
-ghost use Rattle.model.specs.TaskList.{maxTabled};
+ghost use Rattle.model.specs.TaskList.{maxListed};
 ghost use Rattle.model.specs.SheetLayout.{kind1, decode};
 ghost use Rattle.model.specs.Faults.{badDoor, badStart, badPair, badRule, outOfRange};
 
@@ -31,13 +31,13 @@ fn bad_pair(s: &[u8], i: u16) -> bool
 
 // A number of tasks that the table of powers serves is asked for: fault 12 is tested first.
 fn bad_rule(s: &[u8], i: u16) -> bool
-    requires { ⌜ decode (now s) .tasks ≤ maxTabled ⌝ }
+    requires { ⌜ decode (now s) .tasks ≤ maxListed ⌝ }
     ensures { λ r. ⌜ r ≡ badRule kind1 (decode (now (s .entry))) i ⌝ }
 {
     let lists = tasklist::lists(field::tasks(s));
     let least = field::least_count(s, i);
-    let uncounted = (least < 1) | (MAX_LEAST_COUNT < least);
-    (field::doors(s) <= field::rule_door(s, i)) | (lists <= field::watched(s, i) as u32) | uncounted
+    let bad_count = (least < 1) | (MAX_LEAST_COUNT < least);
+    (field::doors(s) <= field::rule_door(s, i)) | (lists <= field::watched(s, i) as u32) | bad_count
 }
 
 fn some_bad_door(s: &[u8]) -> bool
@@ -83,7 +83,7 @@ fn some_bad_pair(s: &[u8]) -> bool
 }
 
 fn some_bad_rule(s: &[u8]) -> bool
-    requires { ⌜ decode (now s) .tasks ≤ maxTabled ⌝ }
+    requires { ⌜ decode (now s) .tasks ≤ maxListed ⌝ }
     ensures { λ r. ⌜ r ≡ anyBelow (decode (now (s .entry)) .rules) (badRule kind1 (decode (now (s .entry)))) ⌝ }
 {
     let rules = field::rules(s);
@@ -98,7 +98,7 @@ fn some_bad_rule(s: &[u8]) -> bool
 }
 
 pub(crate) fn out_of_range(s: &[u8]) -> bool
-    requires { ⌜ decode (now s) .tasks ≤ maxTabled ⌝ }
+    requires { ⌜ decode (now s) .tasks ≤ maxListed ⌝ }
     ensures { λ r. ⌜ r ≡ outOfRange kind1 (decode (now (s .entry))) ⌝ }
 {
     some_bad_door(s) | some_bad_start(s) | some_bad_pair(s) | some_bad_rule(s)

@@ -15,7 +15,7 @@ use borrow.Author.Tests.{eqb-true, eqb-false, lt-ltb, le-ltb}
 use Rattle.model.specs.Folds.{sumBelow, countBelow}
 use Rattle.model.specs.TaskList.{bit, member, with, without, full, watchedIn, withIn}
 use Rattle.model.proofs.Tests.{tested}
-use Rattle.model.proofs.Folds.{sum-cong}
+use Rattle.model.proofs.Folds.{sum-cong, sum-first}
 use Rattle.model.proofs.Masks.{bit-zero, bit-suc, bit-lt, bit-none, bit-cases, bit-above, counted, full-bit, without-is, without-none, without-same, without-other, without-le, with-is, with-same, with-other, same-members}
 
 -- ---- single bits
@@ -86,10 +86,6 @@ pub not-struck : (w K j : ℕ) → K < 2 ^ w → w ≤ j → K ≡ without K j
 not-struck w K j l h = sym (without-none K j (bit-above w j K l h))
 
 -- ---- counts
-
-sum-first : (n : ℕ) (f : ℕ → ℕ) → sumBelow (suc n) f ≡ f 0 + sumBelow n (λ j. f (suc j))
-sum-first zero f = omega arith
-sum-first (suc n) f = omega (arith, sum-first n f)
 
 -- count_ones(K)
 ones-sum : (w K : ℕ) → K < 2 ^ w → ones K ≡ sumBelow w (bit K)

@@ -1,7 +1,6 @@
 // Lists of tasks as masks of 32 bits: bit j stands for task j. Every function takes any number of its type.
 ghost use mathlib.Core.Path.{_≡_};
-ghost use Prim.Native.Nat.{_-_};
-ghost use Rattle.model.specs.TaskList.{member, without, withIn, watchedIn, maskBits, listsOf};
+ghost use Rattle.model.specs.TaskList.{member, without, withIn, watchedIn, maskBits, listsOf, fullOf};
 
 const MASK_BITS: u16 = 32;
 
@@ -33,7 +32,7 @@ pub fn watched_in(watched: u32, k: u32) -> u32
     u32::count_ones(k & watched)
 }
 
-const MAX_TABLED: u16 = 12;
+const MAX_LISTED: u16 = 12;
 
 const LISTS: [u32; 13] = [1, 2, 4, 8, 16, 32, 64, 128, 256, 512, 1024, 2048, 4096];
 
@@ -41,7 +40,7 @@ const LISTS: [u32; 13] = [1, 2, 4, 8, 16, 32, 64, 128, 256, 512, 1024, 2048, 409
 pub fn lists(n: u16) -> u32
     ensures { λ r. ⌜ r ≡ listsOf n ⌝ }
 {
-    if n <= MAX_TABLED {
+    if n <= MAX_LISTED {
         LISTS[n as usize]
     } else {
         0
@@ -50,7 +49,7 @@ pub fn lists(n: u16) -> u32
 
 // The full list of n tasks, up to 12; empty for more.
 pub fn full(n: u16) -> u32
-    ensures { λ r. ⌜ r ≡ listsOf n - 1 ⌝ }
+    ensures { λ r. ⌜ r ≡ fullOf n ⌝ }
 {
     let count = lists(n);
     if count == 0 { 0 } else { count - 1 }

@@ -2,8 +2,8 @@
 use mathlib.Core.Path.{refl, ap, _∙_}
 use Rattle.model.specs.Bytes.{signed}
 use Rattle.model.specs.SheetLayout.{tasksBody, lineAt, kind1, fieldWidth, bytesBefore, entryBytes, decodeBy, decode}
-use native.Mathlib.Omega.{arith}
-use Rattle.number.proofs.Signs.{signed-back}
+use mir.Syntax.{w16}
+use mir.ValLaws.{toZ-ofZ}
 use Rattle.field.proofs.Fields.{at-place}
 use borrow.Author.Needs.{needs}
 use Rattle.field.proofs.change.Statement.{statement}
@@ -18,7 +18,8 @@ to-i16-requires c κs = search needs
 returns : tie.Need-returns
 unfolding lineAt kind1 fieldWidth bytesBefore entryBytes decodeBy decode
 returns c =
-    signed-back (c .before .field2 .result) (c .to-i16 .result) (omega arith) (c .to-i16 .ensures)
+    toZ-ofZ w16 _ (record { sfits = c .to-i16 .ok })
+    ∙ c .to-i16 .ensures
     ∙ ap (signed 2) (at-place tasksBody 0 (c .before .before .before .args .t) _ _ _ refl (c .before .field2 .ensures))
 
 pub change-spec : {M : Type 1} → statement M

@@ -1,6 +1,6 @@
 -- The only field of the last body, at the entry that row and column give. Assumes nothing.
 use mathlib.Core.Path.{sym, ap, _∙_}
-use Prim.Native.Nat.{ℕ, _+_, _*_}
+use Prim.Native.Nat.{ℕ, _+_, _*_, _^_, _<_}
 use native.Mathlib.Omega.{arith}
 use native.Mathlib.Nat.{add-zero}
 use Rattle.model.specs.Bytes.{numberAt}
@@ -24,20 +24,23 @@ points-requires c κs = search needs
 cast-e : tie.Need-cast-e
 cast-e c = search needs
 
+product : (c : tie.After-points) → c .before .before .before .before .args .p * c .points .result < 2 ^ 48
+product c = product-lt _ _ (omega arith) (omega arith)
+
 mul-e : tie.Need-mul-e
-mul-e c = let p = c .before .before .before .before .args .p in omega (arith, product-lt p (c .points .result) (omega arith) (omega arith))
+mul-e c = omega (arith, product c)
 
 add-e : tie.Need-add-e
-add-e c = let p = c .before .before .before .before .args .p in omega (arith, product-lt p (c .points .result) (omega arith) (omega arith))
+add-e c = omega (arith, product c)
 
 cast-read-u16 : tie.Need-cast-read-u16
 cast-read-u16 c = search needs
 
 mul-read-u16 : tie.Need-mul-read-u16
-mul-read-u16 c = let p = c .before .before .before .before .args .p in omega (arith, product-lt p (c .points .result) (omega arith) (omega arith))
+mul-read-u16 c = omega (arith, product c)
 
 add-read-u16 : tie.Need-add-read-u16
-add-read-u16 c = let p = c .before .before .before .before .args .p in omega (arith, product-lt p (c .points .result) (omega arith) (omega arith))
+add-read-u16 c = omega (arith, product c)
 
 read-u16-requires : tie.Need-read-u16-requires
 read-u16-requires c κs = search needs

@@ -1,18 +1,22 @@
 -- The sum of 64 bits does not wrap, since its parts have 32. Assumes nothing.
+use Prim.Native.Nat.{_*_, _^_, _<_}
 use native.Mathlib.Omega.{arith}
 use Rattle.field.proofs.Fields.{product-lt}
 use borrow.Author.Needs.{needs}
 use Rattle.field.proofs.field4.Statement.{statement}
 use Rattle.field.proofs.field4.Tie as tie
 
+product : (c : tie.After-shared-slice-known) → c .before .args .e * c .before .args .size < 2 ^ 48
+product c = product-lt _ _ (c .before .fits .e .fits) (c .before .fits .size .fits)
+
 mul-read-u32 : tie.Need-mul-read-u32
-mul-read-u32 c = let a = c .before .args in let h = c .before .fits in omega (arith, product-lt (a .e) (a .size) (h .e .fits) (h .size .fits))
+mul-read-u32 c = omega (arith, product c)
 
 add-read-u32 : tie.Need-add-read-u32
-add-read-u32 c = let a = c .before .args in let h = c .before .fits in omega (arith, product-lt (a .e) (a .size) (h .e .fits) (h .size .fits))
+add-read-u32 c = omega (arith, product c)
 
 add-read-u32-2 : tie.Need-add-read-u32-2
-add-read-u32-2 c = let a = c .before .args in let h = c .before .fits in omega (arith, product-lt (a .e) (a .size) (h .e .fits) (h .size .fits))
+add-read-u32-2 c = omega (arith, product c)
 
 read-u32-requires : tie.Need-read-u32-requires
 read-u32-requires c κs = search needs

@@ -6,12 +6,12 @@ use mathlib.Core.List.{List}
 use Prim.Native.Nat.{ℕ, _≤_}
 use lib.Dec.{eqb}
 use Rattle.model.specs.Folds.{anyBelow}
-use Rattle.model.specs.TaskList.{full, maxTabled}
+use Rattle.model.specs.TaskList.{full, maxListed}
 use Rattle.model.specs.Orders.{noOrder, strikeOff}
 use Rattle.model.specs.Answer.{Answer, accepted}
 use Rattle.model.specs.SheetLayout.{bodies, kind1, decode}
 use Rattle.model.specs.Faults.{tooShort, wrongKind, wrongEntries, wrongLine, wrongLength, outOfRange, tooLight, unlessFault, Counts, readSheet}
-use Rattle.model.proofs.Limits.{entries-within, counts-within}
+use Rattle.model.proofs.Limits.{entries-within, counts-within, tasks-listed}
 use Rattle.model.proofs.Ranges.{in-range}
 use Rattle.model.proofs.Reading.{Passed, Reads, passed-then, light-then, reads-then}
 use Rattle.model.proofs.NoOrder.{struck-off}
@@ -46,10 +46,10 @@ kind : (c : tie.Else2) → wrongKind kind1 (bytes2 c) ≡ false
 kind c = sym (c .before .wrong-kind .ensures) ∙ c .if2 .left
 
 counts : (c : tie.Else3) → anyBelow bodies (wrongEntries kind1 (bytes3 c)) ≡ false
-counts c = sym (c .before .wrong-entries .ensures) ∙ c .if3 .left
+counts c = sym (c .before .some-wrong-entries .ensures) ∙ c .if3 .left
 
-few : (c : tie.Else3) → decode (bytes3 c) .tasks ≤ maxTabled
-few c = counts-within (bytes3 c) (entries-within kind1 (bytes3 c) (counts c)) .tasks
+few : (c : tie.Else3) → decode (bytes3 c) .tasks ≤ maxListed
+few c = tasks-listed _ (counts-within (bytes3 c) (entries-within kind1 (bytes3 c) (counts c)) .tasks)
 
 places : (c : tie.Else4) → (anyBelow bodies (wrongLine kind1 (bytes4 c)) || wrongLength kind1 (bytes4 c)) ≡ false
 places c = sym (c .before .wrong-places .ensures) ∙ c .if4 .left
@@ -69,15 +69,15 @@ passed c =
       counts = counts e3;
       places = places e4;
       ranges = ranges e5;
-      doors = sym (c .before .before .lacks-door .ensures) ∙ c .if6 .left;
+      doors = sym (c .before .before .some-lacks-door .ensures) ∙ c .if6 .left;
     }
 
 light : (c : tie.Else7) → tooLight (decode (bytes6 (c .before))) ≡ false
 light c = sym (c .before .before .too-light .ensures) ∙ c .if7 .left
 
 -- 17 is what striking off leaves
-struck : (e6 : tie.Else6) (t : Bool) → t ≡ not (eqb (strikeOff (decode (bytes6 e6)) (decode (bytes6 e6) .tasks) (full (decode (bytes6 e6) .tasks))) 0) → noOrder (decode (bytes6 e6)) ≡ t
-struck e6 t h = struck-off (decode (bytes6 e6)) (in-range kind1 (decode (bytes6 e6)) (ranges (e6 .before .before .before))) ∙ sym h
+order-left : (e6 : tie.Else6) (t : Bool) → t ≡ not (eqb (strikeOff (decode (bytes6 e6)) (decode (bytes6 e6) .tasks) (full (decode (bytes6 e6) .tasks))) 0) → noOrder (decode (bytes6 e6)) ≡ t
+order-left e6 t h = struck-off (decode (bytes6 e6)) (in-range kind1 (decode (bytes6 e6)) (ranges (e6 .before .before .before))) ∙ sym h
 
 -- what a sheet that reads is answered with
 abbrev answer : ℕ → ℕ → Answer Counts
@@ -99,14 +99,14 @@ returns-2 : tie.Need-returns-2
 unfolding unlessFault readSheet
 returns-2 c = rw (long (c .before .before), sym (c .before .wrong-kind .ensures) ∙ c .if2 .taken)
 
-wrong-entries-requires : tie.Need-wrong-entries-requires
-wrong-entries-requires c κs = search needs
+some-wrong-entries-requires : tie.Need-some-wrong-entries-requires
+some-wrong-entries-requires c κs = search needs
 
 returns-3 : tie.Need-returns-3
 unfolding unlessFault readSheet
 returns-3 c =
     let e2 = c .before .before in
-    rw (long (e2 .before .before), kind e2, sym (c .before .wrong-entries .ensures) ∙ c .if3 .taken)
+    rw (long (e2 .before .before), kind e2, sym (c .before .some-wrong-entries .ensures) ∙ c .if3 .taken)
 
 wrong-places-requires : tie.Need-wrong-places-requires
 wrong-places-requires c κs = search needs
@@ -129,8 +129,8 @@ returns-5 c =
     let e2 = e3 .before .before in
     rw (long (e2 .before .before), kind e2, counts e3, places e4, sym (c .before .out-of-range .ensures) ∙ c .if5 .taken)
 
-lacks-door-requires : tie.Need-lacks-door-requires
-lacks-door-requires c κs = search needs
+some-lacks-door-requires : tie.Need-some-lacks-door-requires
+some-lacks-door-requires c κs = search needs
 
 too-light-requires : tie.Need-too-light-requires
 too-light-requires c κs = search needs
@@ -142,20 +142,20 @@ returns-6 c =
     let e4 = e5 .before .before in
     let e3 = e4 .before .before in
     let e2 = e3 .before .before in
-    rw (long (e2 .before .before), kind e2, counts e3, places e4, ranges e5, sym (c .before .before .lacks-door .ensures) ∙ c .if6 .taken)
+    rw (long (e2 .before .before), kind e2, counts e3, places e4, ranges e5, sym (c .before .before .some-lacks-door .ensures) ∙ c .if6 .taken)
 
 returns-7 : tie.Need-returns-7
 unfolding unlessFault readSheet
 returns-7 c = sym (passed-then (bytes6 (c .before)) _ (passed (c .before)) ∙ rw (sym (c .before .before .too-light .ensures) ∙ c .if7 .taken))
 
-no-order-requires : tie.Need-no-order-requires
-no-order-requires c κs = few (c .before .before .before .before .before .before .before .before)
+something-left-requires : tie.Need-something-left-requires
+something-left-requires c κs = few (c .before .before .before .before .before .before .before .before)
 
 returns-8 : tie.Need-returns-8
 unfolding unlessFault readSheet
 returns-8 c =
     let e7 = c .before .before in
-    sym (light-then (bytes6 (e7 .before)) _ (passed (e7 .before)) (light e7) ∙ rw (struck (e7 .before) _ (c .before .no-order .ensures) ∙ c .if8 .taken))
+    sym (light-then (bytes6 (e7 .before)) _ (passed (e7 .before)) (light e7) ∙ rw (order-left (e7 .before) _ (c .before .something-left .ensures) ∙ c .if8 .taken))
 
 tasks-requires : tie.Need-tasks-requires
 tasks-requires c κs = search needs
@@ -172,7 +172,7 @@ returns-9 c =
     let reads : Reads (bytes6 e6) = record {
       passed-tests = passed e6;
       light = light e7;
-      ordered = struck e6 _ (e8 .before .no-order .ensures) ∙ e8 .if8 .left;
+      ordered = order-left e6 _ (e8 .before .something-left .ensures) ∙ e8 .if8 .left;
     } in
     ap₂ answer (c .before .tasks .ensures) (c .points .ensures) ∙ sym (reads-then (bytes6 e6) _ reads)
 
@@ -184,17 +184,17 @@ read-spec =
     returns
     wrong-kind-requires
     returns-2
-    wrong-entries-requires
+    some-wrong-entries-requires
     returns-3
     wrong-places-requires
     returns-4
     out-of-range-requires
     returns-5
-    lacks-door-requires
+    some-lacks-door-requires
     too-light-requires
     returns-6
     returns-7
-    no-order-requires
+    something-left-requires
     returns-8
     tasks-requires
     points-requires

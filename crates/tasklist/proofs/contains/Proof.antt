@@ -4,6 +4,7 @@ use Prim.Native.Nat.{ℕ}
 use native.Mathlib.Omega.{arith}
 use lib.Dec.{eqb}
 use borrow.Author.Needs.{needs}
+use Rattle.model.specs.TaskList.{maskBits}
 use Rattle.tasklist.proofs.Shifts.{bit-shifted, not-listed}
 use Rattle.tasklist.proofs.contains.Statement.{statement}
 use Rattle.tasklist.proofs.contains.Tie as tie
@@ -15,7 +16,7 @@ returns : tie.Need-returns
 returns c = ap (λ (b : ℕ). eqb b 1) (bit-shifted (c .before .args .k) (c .before .args .j))
 
 returns-2 : tie.Need-returns-2
-returns-2 c = not-listed 32 (c .before .args .k) (c .before .args .j) (omega arith) (omega arith)
+returns-2 c = not-listed maskBits (c .before .args .k) (c .before .args .j) (omega arith) (omega arith)
 
 pub contains-spec : {M : Type 1} → statement M
 contains-spec = tie.close (tie.spec shr-result returns returns-2)

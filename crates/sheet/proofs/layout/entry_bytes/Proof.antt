@@ -1,5 +1,7 @@
 -- One test over the table. Assumes nothing.
-use Rattle.sheet.proofs.Places.{sizes}
+use Prim.Native.Nat.{_<_}
+use Rattle.model.specs.SheetLayout.{bodies, kind1, fieldWidth, bytesBefore, entryBytes}
+use Rattle.tasklist.proofs.Table.{values}
 use borrow.Author.Needs.{needs}
 use Rattle.sheet.proofs.layout.entry_bytes.Statement.{statement}
 use Rattle.sheet.proofs.layout.entry_bytes.Tie as tie
@@ -11,7 +13,8 @@ array-read-result : tie.Need-array-read-result
 array-read-result c = search needs
 
 returns : tie.Need-returns
-returns c = sizes (c .args .i) (c .pre)
+unfolding kind1 fieldWidth bytesBefore entryBytes
+returns c = let l : c .args .i < bodies = c .pre in rw (values (entryBytes kind1))
 
 pub entry-bytes-spec : {M : Type 1} → statement M
 entry-bytes-spec = tie.close (tie.spec mul-result array-read-result returns)

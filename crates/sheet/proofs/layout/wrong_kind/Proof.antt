@@ -9,12 +9,12 @@ use borrow.Author.Needs.{needs}
 use Rattle.sheet.proofs.layout.wrong_kind.Statement.{statement}
 use Rattle.sheet.proofs.layout.wrong_kind.Tie as tie
 
-read-u16-requires : tie.Need-read-u16-requires
-read-u16-requires c κs = search needs
+kind-requires : tie.Need-kind-requires
+kind-requires c κs = search needs
 
 returns : tie.Need-returns
 unfolding kind1 wrongKind
-returns c = ap (λ (x : ℕ). not (eqb x 1)) (c .read-u16 .ensures)
+returns c = ap (λ (x : ℕ). not (eqb x 1)) (c .kind .ensures)
 
 pub wrong-kind-spec : {M : Type 1} → statement M
-wrong-kind-spec = tie.close (tie.spec read-u16-requires returns)
+wrong-kind-spec = tie.close (tie.spec kind-requires returns)

@@ -3,21 +3,21 @@ use mathlib.Core.Path.{_≡_, refl, sym, ap, _∙_}
 use mathlib.Core.Bool.{Bool, not, _||_}
 use lib.Dec.{eqb}
 use lib.ListN.{length}
-use Prim.Native.Nat.{ℕ, _+_, _-_, _*_, _^_, _≤_}
+use Prim.Native.Nat.{ℕ, _+_, _-_, _*_, _^_, _≤_, _<_}
 use native.Mathlib.Omega.{arith}
 use Rattle.model.specs.Folds.{anyBelow}
 use Rattle.model.specs.SheetLayout.{bodies, kind1, lineAt, bodyAt}
 use Rattle.model.specs.Faults.{wrongLine, wrongLength}
-use Rattle.model.proofs.Tests.{any-true}
+use Rattle.model.proofs.Tests.{or-last, any-true}
 use Rattle.field.proofs.Fields.{product-lt}
 use Rattle.sheet.proofs.Searches.{Searched, next}
-use Rattle.sheet.proofs.Places.{or-last, next-body}
+use Rattle.sheet.proofs.Places.{next-body}
 use borrow.Author.Needs.{needs}
 use Rattle.sheet.proofs.layout.wrong_places.Statement.{statement}
 use Rattle.sheet.proofs.layout.wrong_places.Tie as tie
 
 abbrev Inv-loop : tie.InvT-loop
-Inv-loop s at₀ i₀ at i = Searched bodies (wrongLine kind1 s) i × (at ≡ bodyAt kind1 s i) × (at ≤ 46 + 2 ^ 48 * i)
+Inv-loop s at₀ i₀ at i = Searched bodies (wrongLine kind1 s) i × (at ≡ bodyAt kind1 s i) × (at ≤ 2 ^ 48 * (i + 1))
 
 abbrev μ-loop : tie.MeasureT-loop
 μ-loop s at₀ i₀ at i = bodies - i
@@ -50,11 +50,14 @@ entry-bytes-requires c κs = search needs
 cast-at-3 : tie.Need-cast-at-3 Inv-loop μ-loop
 cast-at-3 c = search needs
 
+product : (c : tie.After-entry-bytes Inv-loop μ-loop) → c .before .entries .result * c .entry-bytes .result < 2 ^ 48
+product c = product-lt _ _ (omega arith) (omega arith)
+
 mul-at : tie.Need-mul-at Inv-loop μ-loop
-mul-at c = omega (arith, product-lt (c .before .entries .result) (c .entry-bytes .result) (omega arith) (omega arith))
+mul-at c = omega (arith, product c)
 
 add-at : tie.Need-add-at Inv-loop μ-loop
-add-at c = omega (arith, product-lt (c .before .entries .result) (c .entry-bytes .result) (omega arith) (omega arith))
+add-at c = omega (arith, product c)
 
 add-i : tie.Need-add-i Inv-loop μ-loop
 add-i c = search needs
@@ -68,7 +71,7 @@ loop-again c =
     let l = c .before .before .before .before .before .loop in (
       next (l .inv .0) (c .before .before .before .before .loop-test .taken) (c .before .before .before .wrong-line .ensures) (c .before .before .if1 .left),
       next-body b (l .i) (l .at) _ _ (l .inv .1) (c .before .entries .ensures) (c .entry-bytes .ensures),
-      omega (arith, product-lt (c .before .entries .result) (c .entry-bytes .result) (omega arith) (omega arith)),
+      omega (arith, product c),
     )
 
 returns-2 : tie.Need-returns-2 Inv-loop μ-loop

@@ -9,10 +9,10 @@ use Rattle.sheet.proofs.light.too_light.Statement.{statement}
 use Rattle.sheet.proofs.light.too_light.Tie as tie
 
 abbrev Inv-loop : tie.InvT-loop
-Inv-loop s tasks least₀ t₀ least t = (t ≤ tasks) × SumBelow (decode s) t least
+Inv-loop s tasks lightest₀ t₀ lightest t = (t ≤ tasks) × SumBelow (decode s) t lightest
 
 abbrev μ-loop : tie.MeasureT-loop
-μ-loop s tasks least₀ t₀ least t = tasks - t
+μ-loop s tasks lightest₀ t₀ lightest t = tasks - t
 
 tasks-requires : tie.Need-tasks-requires Inv-loop μ-loop
 tasks-requires c κs = search needs
@@ -20,8 +20,8 @@ tasks-requires c κs = search needs
 end-load-requires : tie.Need-end-load-requires Inv-loop μ-loop
 end-load-requires c κs = search needs
 
-cast-least : tie.Need-cast-least Inv-loop μ-loop
-cast-least c = search needs
+cast-lightest : tie.Need-cast-lightest Inv-loop μ-loop
+cast-lightest c = search needs
 
 loop-holds : tie.Need-loop-holds Inv-loop μ-loop
 loop-holds c = (omega arith, no-task _ _ (omega arith) (c .end-load .ensures))
@@ -29,11 +29,11 @@ loop-holds c = (omega arith, no-task _ _ (omega arith) (c .end-load .ensures))
 change-requires : tie.Need-change-requires Inv-loop μ-loop
 change-requires c κs = search needs
 
-cast-least-2 : tie.Need-cast-least-2 Inv-loop μ-loop
-cast-least-2 c = widened-fits (c .before .change .result) (c .before .change .ok)
+cast-lightest-2 : tie.Need-cast-lightest-2 Inv-loop μ-loop
+cast-lightest-2 c = widened-fits (c .before .change .result) (c .before .change .ok)
 
-add-least : tie.Need-add-least Inv-loop μ-loop
-add-least c =
+add-lightest : tie.Need-add-lightest Inv-loop μ-loop
+add-lightest c =
     let r = c .before .change in
     next-fits (c .before .before .before .loop .inv .1) (omega arith) (r .ensures) (r .ok) (c .if1 .taken)
 
@@ -65,11 +65,11 @@ too-light-spec =
     μ-loop
     tasks-requires
     end-load-requires
-    cast-least
+    cast-lightest
     loop-holds
     change-requires
-    cast-least-2
-    add-least
+    cast-lightest-2
+    add-lightest
     add-t
     loop-less
     loop-again

@@ -6,12 +6,12 @@ use native.Mathlib.Omega.{arith}
 use borrow.Author.Needs.{needs}
 use Rattle.model.specs.Folds.{allBelow}
 use Rattle.model.specs.SheetLayout.{decode}
-use Rattle.sheet.proofs.Striking.{passes, waits, next-pair, all-pairs}
+use Rattle.sheet.proofs.Striking.{notWaiting, waits, next-pair, all-pairs}
 use Rattle.sheet.proofs.order.is_free.Statement.{statement}
 use Rattle.sheet.proofs.order.is_free.Tie as tie
 
 abbrev Inv-loop : tie.InvT-loop
-Inv-loop s k t pairs i₀ i = (i ≤ pairs) × (allBelow i (passes (decode s) k t) ≡ true)
+Inv-loop s k t pairs i₀ i = (i ≤ pairs) × (allBelow i (notWaiting (decode s) k t) ≡ true)
 
 abbrev μ-loop : tie.MeasureT-loop
 μ-loop s k t pairs i₀ i = pairs - i

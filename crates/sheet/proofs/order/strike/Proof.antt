@@ -1,6 +1,6 @@
 -- Both tests together are the definition's. Assumes nothing.
 use borrow.Author.Needs.{needs}
-use Rattle.sheet.proofs.Striking.{struck, kept}
+use Rattle.sheet.proofs.Striking.{strikes, keeps}
 use Rattle.sheet.proofs.order.strike.Statement.{statement}
 use Rattle.sheet.proofs.order.strike.Tie as tie
 
@@ -14,10 +14,10 @@ without-requires : tie.Need-without-requires
 without-requires c κs = search needs
 
 returns : tie.Need-returns
-returns c = struck _ _ _ (c .before .before .before .contains .ensures) (c .before .before .is-free .ensures) (c .before .if1 .taken) (c .without .ensures)
+returns c = strikes _ _ _ (c .before .before .before .contains .ensures) (c .before .before .is-free .ensures) (c .before .if1 .taken) (c .without .ensures)
 
 returns-2 : tie.Need-returns-2
-returns-2 c = kept _ _ _ (c .before .before .contains .ensures) (c .before .is-free .ensures) (c .if1 .left)
+returns-2 c = keeps _ _ _ (c .before .before .contains .ensures) (c .before .is-free .ensures) (c .if1 .left)
 
 pub strike-spec : {M : Type 1} → statement M
 strike-spec =

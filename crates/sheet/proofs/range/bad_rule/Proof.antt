@@ -2,7 +2,7 @@
 use Rattle.model.specs.SheetLayout.{kind1}
 use Rattle.model.specs.Faults.{badRule}
 use Rattle.model.proofs.Masks.{lists-of}
-use Rattle.sheet.proofs.Searches.{outside}
+use Rattle.model.proofs.Tests.{outside}
 use borrow.Author.Needs.{needs}
 use Rattle.sheet.proofs.range.bad_rule.Statement.{statement}
 use Rattle.sheet.proofs.range.bad_rule.Tie as tie
@@ -30,7 +30,18 @@ cast-result c = search needs
 
 returns : tie.Need-returns
 unfolding badRule kind1
-returns c = rw (c .watched .ensures, c .before .rule-door .ensures, c .before .before .doors .ensures, c .before .before .before .least-count .ensures, c .before .before .before .before .lists .ensures, c .before .before .before .before .before .tasks .ensures, lists-of _ (c .before .before .before .before .before .before .before .pre), outside)
+returns c =
+    let l = c .before .before .before .before in
+    rw (
+      c .watched .ensures,
+      c .before .rule-door .ensures,
+      c .before .before .doors .ensures,
+      c .before .before .before .least-count .ensures,
+      l .lists .ensures,
+      l .before .tasks .ensures,
+      lists-of _ (l .before .before .before .pre),
+      outside,
+    )
 
 pub bad-rule-spec : {M : Type 1} → statement M
 bad-rule-spec = tie.close (tie.spec tasks-requires lists-requires least-count-requires doors-requires rule-door-requires watched-requires cast-result returns)

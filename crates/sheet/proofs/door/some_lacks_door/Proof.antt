@@ -13,8 +13,8 @@ use Rattle.model.specs.Sheet.{Sheet}
 use Rattle.model.specs.SheetLayout.{decode}
 use Rattle.model.specs.Faults.{lacksDoor}
 use Rattle.model.proofs.Tests.{all-false, all-next, any-true, any-next}
-use Rattle.sheet.proofs.door.lacks_door.Statement.{statement}
-use Rattle.sheet.proofs.door.lacks_door.Tie as tie
+use Rattle.sheet.proofs.door.some_lacks_door.Statement.{statement}
+use Rattle.sheet.proofs.door.some_lacks_door.Tie as tie
 
 -- door d is not one of task t
 abbrev other : Sheet → ℕ → ℕ → Bool
@@ -24,9 +24,9 @@ module _ (S : Sheet) (t d : ℕ) where
   next-door : {r : ℕ} → r ≡ S .task d → (r ≡ t → ⊥) → allBelow d (other S t) ≡ true → allBelow (d + 1) (other S t) ≡ true
   next-door e n h = all-next d (other S t) h (ap not (ne-eqb _ _ (λ q. n (e ∙ q))))
 
-  next-task : S .task d ≡ t → d < S .doors → anyBelow t (lacksDoor S) ≡ false → anyBelow (t + 1) (lacksDoor S) ≡ false
+  next-served : S .task d ≡ t → d < S .doors → anyBelow t (lacksDoor S) ≡ false → anyBelow (t + 1) (lacksDoor S) ≡ false
   unfolding lacksDoor
-  next-task e l h = any-next t (lacksDoor S) h (all-false (S .doors) (other S t) d l (ap not (eq-eqb _ _ e)))
+  next-served e l h = any-next t (lacksDoor S) h (all-false (S .doors) (other S t) d l (ap not (eq-eqb _ _ e)))
 
   one-lacks : {n : ℕ} → n ≡ S .tasks → t < n → d ≡ S .doors → allBelow d (other S t) ≡ true → ltb t n ≡ anyBelow (S .tasks) (lacksDoor S)
   unfolding lacksDoor
@@ -84,7 +84,7 @@ tasks-again : tie.Need-tasks-again Inv-loop μ-loop Inv-tasks μ-tasks
 tasks-again c =
     let o = c .before .before .before .before .before .tasks in (
       omega arith,
-      next-task _ (o .t) (c .before .before .before .loop .d) (sym (c .before .task .ensures) ∙ c .if1 .taken) (omega arith) (o .inv .1),
+      next-served _ (o .t) (c .before .before .before .loop .d) (sym (c .before .task .ensures) ∙ c .if1 .taken) (omega arith) (o .inv .1),
     )
 
 returns : tie.Need-returns Inv-loop μ-loop Inv-tasks μ-tasks
@@ -95,8 +95,8 @@ returns c =
     (λ w. one-lacks _ (o .t) (w .1 .d) (c .before .before .before .tasks2 .ensures) (w .0 .taken) (omega arith) (w .1 .inv .1))
     (c .tasks-test .came)
 
-pub lacks-door-spec : {M : Type 1} → statement M
-lacks-door-spec =
+pub some-lacks-door-spec : {M : Type 1} → statement M
+some-lacks-door-spec =
     tie.close
     (tie.spec
     Inv-loop

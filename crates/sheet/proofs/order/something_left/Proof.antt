@@ -5,12 +5,13 @@ use Prim.Native.Nat.{ℕ, _-_, _≤_}
 use native.Mathlib.Omega.{arith}
 use lib.Dec.{eqb}
 use borrow.Author.Needs.{needs}
-use Rattle.model.specs.TaskList.{full, listsOf}
+use Rattle.model.specs.TaskList.{full, fullOf}
 use Rattle.model.specs.SheetLayout.{decode}
 use Rattle.model.specs.Orders.{strikeOff}
-use Rattle.sheet.proofs.Striking.{next-pass, empty-after, full-is}
-use Rattle.sheet.proofs.order.no_order.Statement.{statement}
-use Rattle.sheet.proofs.order.no_order.Tie as tie
+use Rattle.model.proofs.Masks.{full-of}
+use Rattle.sheet.proofs.Striking.{next-pass, empty-after}
+use Rattle.sheet.proofs.order.something_left.Statement.{statement}
+use Rattle.sheet.proofs.order.something_left.Tie as tie
 
 abbrev Inv-loop : tie.InvT-loop
 Inv-loop s tasks left₀ pass₀ left pass = (pass ≤ tasks) × (left ≡ strikeOff (decode s) pass (full (decode s .tasks)))
@@ -27,7 +28,7 @@ full-requires c κs = search needs
 loop-holds : tie.Need-loop-holds Inv-loop μ-loop
 loop-holds c =
     let s = c .before .before .before in
-    (omega arith, c .full .ensures ∙ ap (λ (n : ℕ). listsOf n - 1) (c .before .tasks .ensures) ∙ full-is (decode (s .args .s .now) .tasks) (s .pre))
+    (omega arith, c .full .ensures ∙ ap fullOf (c .before .tasks .ensures) ∙ full-of (decode (s .args .s .now) .tasks) (s .pre))
 
 returns : tie.Need-returns Inv-loop μ-loop
 returns c =
@@ -59,8 +60,8 @@ returns-2 c =
     let e : l .pass ≡ S .tasks = omega arith in
     ap (λ (n : ℕ). not (eqb n 0)) (l .inv .1 ∙ ap (λ (n : ℕ). strikeOff S n (full (S .tasks))) e)
 
-pub no-order-spec : {M : Type 1} → statement M
-no-order-spec =
+pub something-left-spec : {M : Type 1} → statement M
+something-left-spec =
     tie.close
     (tie.spec
     Inv-loop
