@@ -7,9 +7,9 @@
  * outside of what it is lent, and every call ends. A call keeps nothing from one call to the next and may be made from
  * several threads at once.
  *
- * What a caller owes, since C has no way to test it: a pointer with a length points to at least that many elements
- * (and is not NULL, even where the length is 0), any other pointer points to one number that may be written, and what
- * is written through overlaps nothing else that is passed.
+ * The caller ensures, since no call can test it, that a pointer with a length points to at least that many elements
+ * (and is not NULL, even where the length is 0), that any other pointer points to one number that may be
+ * written, and that what is written through overlaps nothing else that is passed.
  */
 #ifndef VANPLAN_H
 #define VANPLAN_H
@@ -27,7 +27,7 @@ enum vanplan_refusal {
     VANPLAN_WRONG_KIND = 11,    /* the kind is not 1 */
     VANPLAN_WRONG_ENTRIES = 12, /* a body has too few or too many entries, or not P times P distances */
     VANPLAN_WRONG_PLACES = 13,  /* a body number or offset is wrong, or the length is not the end of the last body */
-    VANPLAN_OUT_OF_RANGE = 14,  /* a task, point, door or least count is out of range, or a task is watched that is none */
+    VANPLAN_OUT_OF_RANGE = 14,  /* a task, point, door or least count is out of range, or a watched bit at N or above is set */
     VANPLAN_NO_DOOR = 15,       /* some task has no door */
     VANPLAN_TOO_LIGHT = 16,     /* the end load plus all negative load changes is below zero */
     VANPLAN_NO_ORDER = 17       /* no order of the tasks keeps every pair */

@@ -1,8 +1,7 @@
 //! Safe bindings over the C interface of vanplan.
 //!
-//! vanplan plans delivery rounds and validates plans made by others. Each
-//! call of the C interface has one safe function here, in a file of the same name. A refusal is a number of the
-//! document's table, see [`Refusal`].
+//! vanplan plans delivery rounds and validates plans made by others. Each call of the C interface has one safe function
+//! here, in a file of the same name. What can be refused, and with which number, is in [`Refusal`].
 //!
 //! ```
 //! use vanplan::{read, Refusal};

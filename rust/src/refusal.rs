@@ -1,4 +1,4 @@
-//! The numbers a call can answer with, and the document's words for them.
+//! The numbers a call can answer with, and the words of document 01, the scope of the product, for them.
 
 use std::error::Error;
 use std::fmt;
@@ -31,7 +31,7 @@ impl Refusal {
     /// 17: no order of the tasks keeps every pair.
     pub const NO_ORDER: Refusal = Refusal(17);
 
-    /// The document's words for the number; nothing for a number that is not in its table.
+    /// Document 01's words for the number; nothing for a number that no call of this package answers with.
     pub fn meaning(self) -> Option<&'static str> {
         Some(match self {
             Refusal::TOO_SHORT => "sheet shorter than 46 bytes",

@@ -1,7 +1,7 @@
 //! Every combination of faults that can exist: the lowest number is answered.
 //!
-//! A sheet of fewer than 46 bytes has no bodies, so 10 comes with 11, 12 and 13 and never with 14 to 17, which speak
-//! of entries. All other combinations exist: kind, numbers of entries, layout, ranges, doors, loads and pairs can go
+//! A fault applies here by what is there. A sheet of fewer than 46 bytes has no bodies, so 10 comes with 11, 12 and 13
+//! and not with 14 to 17, which speak of entries; its answer is 10 in any case. All other combinations exist: kind, numbers of entries, layout, ranges, doors, loads and pairs can go
 //! wrong independently of each other. So there are 127 combinations without 10, and 8 with it. No number is above 17.
 
 use crate::common::check::Tally;
@@ -36,13 +36,14 @@ fn every_set_of_faults_from_11_on() {
     assert_eq!(sets.len(), 128);
     let mut tally = Tally::default();
     for set in sets {
-        for seed in 0..100 {
+        let seeds = if set.len() < 2 { 2_000 } else { 100 };
+        for seed in 0..seeds {
             let sheet = with_faults(&mut Rng::new(seed), &set);
             check_set(&mut tally, &sheet, &set, seed);
         }
     }
-    tally.assert_met(&[0, 11, 12, 13, 14, 15, 16, 17], 100);
-    tally.assert_alone(&[11, 12, 13, 14, 15, 16, 17], 100);
+    tally.assert_met(&[0, 11, 12, 13, 14, 15, 16, 17], 2_000);
+    tally.assert_alone(&[11, 12, 13, 14, 15, 16, 17], 2_000);
     tally.assert_with_higher(&[11, 12, 13, 14, 15, 16], 100);
 }
 
@@ -53,14 +54,14 @@ fn every_set_of_faults_of_a_sheet_too_short() {
     let mut tally = Tally::default();
     for set in sets {
         let due = [&[10], &set[..]].concat();
-        for seed in 0..300 {
+        for seed in 0..1_000 {
             let sheet = short_with_faults(&mut Rng::new(seed), &set);
             check_set(&mut tally, &sheet, &due, seed);
         }
     }
-    tally.assert_met(&[10], 2_400);
-    tally.assert_alone(&[10], 300);
-    tally.assert_with_higher(&[10], 2_100);
+    tally.assert_met(&[10], 8_000);
+    tally.assert_alone(&[10], 1_000);
+    tally.assert_with_higher(&[10], 7_000);
 }
 
 #[test]
@@ -72,7 +73,7 @@ fn every_pair_of_faults_that_can_exist() {
                 continue;
             }
             let mut tally = Tally::default();
-            for seed in 1_000..1_200 {
+            for seed in 1_000..2_000 {
                 let mut rng = Rng::new(seed);
                 let sheet = match lower {
                     10 => short_with_faults(&mut rng, &[higher]),
@@ -80,7 +81,7 @@ fn every_pair_of_faults_that_can_exist() {
                 };
                 check_set(&mut tally, &sheet, &[lower, higher], seed);
             }
-            tally.assert_met(&[lower], 200);
+            tally.assert_with_higher(&[lower], 1_000);
             met.push((lower, higher));
         }
     }

@@ -20,17 +20,19 @@ fn with_doors(tasks: usize, doors: usize) -> Sheet {
 fn one_task_is_left_without_its_only_door() {
     for tasks in 2..=12 {
         for task in 0..tasks as u16 {
+            // The doors serve the other tasks in turn.
+            let mut lacking = with_doors(tasks, 64);
+            for (i, door) in lacking.doors.iter_mut().enumerate() {
+                door.task = (task + 1 + (i % (tasks - 1)) as u16) % tasks as u16;
+            }
+            let case = format_args!("{tasks} tasks, task {task}");
+            expect(15, &lacking.encode(), case);
             for only in 0..64 {
-                // The doors serve the other tasks in turn, and door `only` serves this one.
-                let mut sheet = with_doors(tasks, 64);
-                for (i, door) in sheet.doors.iter_mut().enumerate() {
-                    door.task = (task + 1 + (i % (tasks - 1)) as u16) % tasks as u16;
-                }
+                // Door `only` serves this task; the one that loses it has others, since 64 doors are enough.
+                let mut served = lacking.clone();
+                served.doors[only].task = task;
                 let case = format_args!("{tasks} tasks, task {task}, door {only}");
-                expect(15, &sheet.encode(), case);
-                // The task that loses this door has others, unless there are too few doors; 64 are enough.
-                sheet.doors[only].task = task;
-                expect(0, &sheet.encode(), case);
+                expect(0, &served.encode(), case);
             }
         }
     }

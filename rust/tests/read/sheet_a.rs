@@ -34,6 +34,8 @@ fn typed() -> Vec<u8> {
 fn a_has_102_bytes_and_reads_as_two_tasks_and_three_points() {
     assert_eq!(typed().len(), 102, "the typed sheet A");
     assert_eq!(sheet_a().encode(), typed(), "the sheet A of the tests");
+    let example = include_bytes!("../../../examples/a.sheet");
+    assert_eq!(example[..], typed(), "examples/a.sheet");
     let counts = Counts {
         tasks: 2,
         points: 3,
