@@ -1,9 +1,8 @@
 // Fault 17, decided by striking off: again and again, each task that can come first in what is left.
 ghost use mathlib.Core.Path.{_≡_};
 ghost use mathlib.Core.Bool.{cond, not};
-ghost use Prim.Native.Nat.{_≤_};
 ghost use lib.Dec.{eqb};
-ghost use Rattle.model.specs.TaskList.{maxListed, without, full};
+ghost use Rattle.model.specs.TaskList.{without, fullOf};
 ghost use Rattle.model.specs.SheetLayout.{decode};
 ghost use Rattle.model.specs.Orders.{isFree, canComeFirst, strikeBelow, strikeOff};
 
@@ -51,8 +50,7 @@ fn strike_pass(s: &[u8], k: u32) -> u32
 
 // Whether as many passes as there are tasks leave something of the full list. An empty list stays empty.
 pub(crate) fn something_left(s: &[u8]) -> bool
-    requires { ⌜ decode (now s) .tasks ≤ maxListed ⌝ }
-    ensures { λ r. ⌜ r ≡ not (eqb (strikeOff (decode (now (s .entry))) (decode (now (s .entry)) .tasks) (full (decode (now (s .entry)) .tasks))) 0) ⌝ }
+    ensures { λ r. ⌜ r ≡ not (eqb (strikeOff (decode (now (s .entry))) (decode (now (s .entry)) .tasks) (fullOf (decode (now (s .entry)) .tasks))) 0) ⌝ }
 {
     let tasks = field::tasks(s);
     let mut left = tasklist::full(tasks);

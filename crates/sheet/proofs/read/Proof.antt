@@ -1,12 +1,12 @@
 -- Each test that did not apply is one of the definition's chain, and the first that applies is its answer. Twelve tasks at most, which 14 and 17 ask for, is what 12 has tested;
 -- 17 is decided by striking off because 14 has tested the pairs. Assumes nothing.
-use mathlib.Core.Path.{_≡_, sym, ap₂, _∙_}
+use mathlib.Core.Path.{_≡_, sym, ap, ap₂, _∙_}
 use mathlib.Core.Bool.{Bool, false, not, _||_}
 use mathlib.Core.List.{List}
 use Prim.Native.Nat.{ℕ, _≤_}
 use lib.Dec.{eqb}
 use Rattle.model.specs.Folds.{anyBelow}
-use Rattle.model.specs.TaskList.{full, maxListed}
+use Rattle.model.specs.TaskList.{maxListed, fullOf}
 use Rattle.model.specs.Orders.{noOrder, strikeOff}
 use Rattle.model.specs.Answer.{Answer, accepted}
 use Rattle.model.specs.SheetLayout.{bodies, kind1, decode}
@@ -15,6 +15,7 @@ use Rattle.model.proofs.Limits.{entries-within, counts-within, tasks-listed}
 use Rattle.model.proofs.Ranges.{in-range}
 use Rattle.model.proofs.Reading.{Passed, Reads, passed-then, light-then, reads-then}
 use Rattle.model.proofs.NoOrder.{struck-off}
+use Rattle.model.proofs.Masks.{full-of}
 use borrow.Author.Needs.{needs}
 use Rattle.sheet.proofs.read.Statement.{statement}
 use Rattle.sheet.proofs.read.Tie as tie
@@ -76,8 +77,11 @@ light : (c : tie.Else7) → tooLight (decode (bytes6 (c .before))) ≡ false
 light c = sym (c .before .before .too-light .ensures) ∙ c .if7 .left
 
 -- 17 is what striking off leaves
-order-left : (e6 : tie.Else6) (t : Bool) → t ≡ not (eqb (strikeOff (decode (bytes6 e6)) (decode (bytes6 e6) .tasks) (full (decode (bytes6 e6) .tasks))) 0) → noOrder (decode (bytes6 e6)) ≡ t
-order-left e6 t h = struck-off (decode (bytes6 e6)) (in-range kind1 (decode (bytes6 e6)) (ranges (e6 .before .before .before))) ∙ sym h
+order-left : (e6 : tie.Else6) (t : Bool) → t ≡ not (eqb (strikeOff (decode (bytes6 e6)) (decode (bytes6 e6) .tasks) (fullOf (decode (bytes6 e6) .tasks))) 0) → noOrder (decode (bytes6 e6)) ≡ t
+order-left e6 t h =
+    let e5 = e6 .before .before .before in
+    let S = decode (bytes6 e6) in
+    struck-off S (in-range kind1 S (ranges e5)) ∙ sym (h ∙ ap (λ (K : ℕ). not (eqb (strikeOff S (S .tasks) K) 0)) (full-of (S .tasks) (few (e5 .before .before .before .before))))
 
 -- what a sheet that reads is answered with
 abbrev answer : ℕ → ℕ → Answer Counts
@@ -149,7 +153,7 @@ unfolding unlessFault readSheet
 returns-7 c = sym (passed-then (bytes6 (c .before)) _ (passed (c .before)) ∙ rw (sym (c .before .before .too-light .ensures) ∙ c .if7 .taken))
 
 something-left-requires : tie.Need-something-left-requires
-something-left-requires c κs = few (c .before .before .before .before .before .before .before .before)
+something-left-requires c κs = search needs
 
 returns-8 : tie.Need-returns-8
 unfolding unlessFault readSheet

@@ -1,20 +1,19 @@
--- What so many passes leave of the full list, which the table gives for up to 12 tasks. Once empty, it stays empty. Assumes nothing.
+-- What so many passes leave of the full list. Once empty, it stays empty. Assumes nothing.
 use mathlib.Core.Path.{_≡_, sym, ap, _∙_}
 use mathlib.Core.Bool.{not}
 use Prim.Native.Nat.{ℕ, _-_, _≤_}
 use native.Mathlib.Omega.{arith}
 use lib.Dec.{eqb}
 use borrow.Author.Needs.{needs}
-use Rattle.model.specs.TaskList.{full, fullOf}
+use Rattle.model.specs.TaskList.{fullOf}
 use Rattle.model.specs.SheetLayout.{decode}
 use Rattle.model.specs.Orders.{strikeOff}
-use Rattle.model.proofs.Masks.{full-of}
 use Rattle.sheet.proofs.Striking.{next-pass, empty-after}
 use Rattle.sheet.proofs.order.something_left.Statement.{statement}
 use Rattle.sheet.proofs.order.something_left.Tie as tie
 
 abbrev Inv-loop : tie.InvT-loop
-Inv-loop s tasks left₀ pass₀ left pass = (pass ≤ tasks) × (left ≡ strikeOff (decode s) pass (full (decode s .tasks)))
+Inv-loop s tasks left₀ pass₀ left pass = (pass ≤ tasks) × (left ≡ strikeOff (decode s) pass (fullOf (decode s .tasks)))
 
 abbrev μ-loop : tie.MeasureT-loop
 μ-loop s tasks left₀ pass₀ left pass = tasks - pass
@@ -26,9 +25,7 @@ full-requires : tie.Need-full-requires Inv-loop μ-loop
 full-requires c κs = search needs
 
 loop-holds : tie.Need-loop-holds Inv-loop μ-loop
-loop-holds c =
-    let s = c .before .before .before in
-    (omega arith, c .full .ensures ∙ ap fullOf (c .before .tasks .ensures) ∙ full-of (decode (s .args .s .now) .tasks) (s .pre))
+loop-holds c = (omega arith, c .full .ensures ∙ ap fullOf (c .before .tasks .ensures))
 
 returns : tie.Need-returns Inv-loop μ-loop
 returns c =
@@ -36,7 +33,7 @@ returns c =
     let S = decode (s .args .s .now) in
     let l = c .before .before .loop in
     let h : l .pass ≤ S .tasks = omega arith in
-    sym (ap (λ (n : ℕ). not (eqb n 0)) (empty-after S (full (S .tasks)) (l .pass) (S .tasks) h (sym (l .inv .1) ∙ c .if1 .taken)))
+    sym (ap (λ (n : ℕ). not (eqb n 0)) (empty-after S (fullOf (S .tasks)) (l .pass) (S .tasks) h (sym (l .inv .1) ∙ c .if1 .taken)))
 
 strike-pass-requires : tie.Need-strike-pass-requires Inv-loop μ-loop
 strike-pass-requires c κs = search needs
@@ -58,7 +55,7 @@ returns-2 c =
     let S = decode (s .args .s .now) in
     let l = c .before .loop in
     let e : l .pass ≡ S .tasks = omega arith in
-    ap (λ (n : ℕ). not (eqb n 0)) (l .inv .1 ∙ ap (λ (n : ℕ). strikeOff S n (full (S .tasks))) e)
+    ap (λ (n : ℕ). not (eqb n 0)) (l .inv .1 ∙ ap (λ (n : ℕ). strikeOff S n (fullOf (S .tasks))) e)
 
 pub something-left-spec : {M : Type 1} → statement M
 something-left-spec =
