@@ -7,11 +7,12 @@ use Rattle.model.specs.TaskList.{bit, with, without, full, size, watched
 use Rattle.model.specs.Orders.{isOrder, keepsPair, keepsEveryPair, pairWithin, keepsPairsWithin, isAdmissible, isOrderWithin, admissibleOrders, noOrder, essential, pairsAllow}
 use Rattle.model.specs.Cost.{load, ruleCharge, charges, stepCost}
 use Rattle.model.specs.Plans.{inSheet, isSolution, roundCost, planCost, plans, solutions, cheapest, isCompletion, completions, costToGo}
-use Rattle.model.specs.Bytes.{numberAt, signed, bytesOf, overwrite}
+use Rattle.model.specs.Bytes.{numberAt, signed, bytesOf, overwrite, overwriteAt}
 use Rattle.model.specs.Answer.{accepted}
 use Rattle.model.specs.SheetLayout.{kind1, fieldWidth, bytesBefore, entryBytes, lineAt, lineBody, lineOffset, entries, fieldAt, sheetLength, decodeBy, decode}
 use Rattle.model.specs.Faults.{tooShort, wrongKind, wrongEntries, wrongLine, wrongLength, badDoor, badStart, badPair, badRule, outOfRange, lacksDoor, tooLight, unlessFault, readSheet}
-use Rattle.model.specs.PlanLayout.{planStartAt, planDoorsAt, planCostAt, planLength, lineBytes, planHead, planBytes, illFormed, startIn, doorIn, doorsIn, costIn}
+use Rattle.model.specs.PlanLayout.{planStartAt, planDoorsAt, planCostAt, planLength, lineBytes, planHead, planBytes, wrongTasks, writeAnswer, bytesWritten, writePlan, illFormed, startIn, doorIn, doorsIn, costIn, doorArray, readPlan}
+use Rattle.model.specs.PlanInHand.{noDoors, withDoor, inHand}
 use Rattle.model.specs.Validating.{notInSheet, doneTwice, validateFor, validate}
 use Rattle.model.specs.Planning.{cellsNeeded, planFor, cellAfter, cellsAfter, plan}
 use Rattle.model.specs.Printing.{decimal, refusalLine, stepLine, planLines, printInput, printedFor, printed}
@@ -23,10 +24,11 @@ unfolding checkStarred checkFurther
     isOrder keepsPair keepsEveryPair pairWithin keepsPairsWithin isAdmissible isOrderWithin admissibleOrders noOrder essential pairsAllow
     load ruleCharge charges stepCost
     inSheet isSolution roundCost planCost plans solutions cheapest isCompletion completions costToGo
-    numberAt signed bytesOf overwrite
+    numberAt signed bytesOf overwrite overwriteAt
     kind1 fieldWidth bytesBefore entryBytes lineAt lineBody lineOffset entries fieldAt sheetLength decodeBy decode
     tooShort wrongKind wrongEntries wrongLine wrongLength badDoor badStart badPair badRule outOfRange lacksDoor tooLight unlessFault readSheet
-    planStartAt planDoorsAt planCostAt planLength lineBytes planHead planBytes illFormed startIn doorIn doorsIn costIn
+    planStartAt planDoorsAt planCostAt planLength lineBytes planHead planBytes wrongTasks writeAnswer bytesWritten writePlan illFormed startIn doorIn doorsIn costIn doorArray readPlan
+    noDoors withDoor inHand
     notInSheet doneTwice validateFor validate
     cellsNeeded planFor cellAfter cellsAfter plan
     decimal refusalLine stepLine planLines printInput printedFor printed
@@ -36,7 +38,7 @@ examples = (tt, tt, refl)
 pub starred : T checkStarred
 starred = examples .0
 
--- room, the numbers 10 to 15, refusals in print, and a sheet of our own
+-- room, the numbers 10 to 15, plans written, read and in hand, refusals in print, and a sheet of our own
 pub further : T checkFurther
 further = examples .1
 

@@ -17,7 +17,8 @@ use Rattle.model.specs.Sheet.{Sheet}
 use Rattle.model.specs.Orders.{isOrder, isAdmissible, isOrderWithin}
 use Rattle.model.specs.Cost.{load, ruleCharge, charges, stepCost, cost}
 use Rattle.model.specs.Plans.{inSheet, isSolution, roundCost, isCompletion, completions, costToGo}
-use Rattle.model.specs.SheetLayout.{maxTasks, maxRules, kind1, decode}
+use Rattle.model.specs.SheetLayout.{maxTasks, maxRules, tasksBody, rulesBody, kind1, decodeBy, decode}
+use Rattle.model.specs.PlanLayout.{maxPlanDoors}
 use Rattle.model.proofs.Tests.{tested, and-left, and-right}
 use Rattle.model.proofs.Folds.{sum-cong, sum-le, sum-mono, sum-add}
 use Rattle.model.proofs.Masks.{size-le}
@@ -26,7 +27,7 @@ use Rattle.model.proofs.Counting.{order-length, order-once}
 use Rattle.model.proofs.Limits.{CountsWithin, counts-within, entries-within}
 use Rattle.model.proofs.Reading.{Reads}
 use Rattle.model.proofs.Loads.{load-magnitude}
-use Rattle.model.proofs.Widths.{Widths, widths}
+use Rattle.model.proofs.Widths.{Widths, entries-lt, widths}
 
 -- ---- tasks in an order, doors on a route
 
@@ -87,6 +88,10 @@ pub record Limits : Type 0 where
 unfoldable pub sumLimit : Limits → ℕ
 sumLimit L = L .tasks * (L .distance * L .load + L .work) + L .rules * L .charge + L .endCost
 
+-- one step, with a charge for every rule
+unfoldable pub stepLimit : Limits → ℕ
+stepLimit L = L .distance * L .load + L .work + L .rules * L .charge
+
 pub record WithinLimits (L : Limits) (S : Sheet) : Type 0 where
   pub tasks : S .tasks ≤ L .tasks
   pub rules : S .rules ≤ L .rules
@@ -145,45 +150,89 @@ module _ (L : Limits) (S : Sheet) (W : WithinLimits L S) where
   unfolding costToGo completions
   to-go-bound K p = least-le (cost S p) (sumLimit L) (completions S K) (all-kept _ (isCompletion S K) (cost-bound K p) (listsBelow (S .doors) (size (S .tasks) K)))
 
+  -- ---- any step and any route
+
+  charges-bound : (K d : ℕ) → charges S K d ≤ L .rules * L .charge
+  unfolding charges
+  charges-bound K d = le-trans
+      (sum-le (S .rules) (L .charge) _ (λ i l. elim (eqb (S .ruleDoor i) d) as (λ t. cond t (ruleCharge S K i) 0 ≤ L .charge)
+      [ true ↦ W .charge K i | false ↦ omega arith ]))
+      (mul-le-mul-right (L .charge) (W .rules))
+
+  -- every rule may be on the step's door
+  pub step-bound : (K p d : ℕ) → stepCost S K p d ≤ stepLimit L
+  unfolding stepLimit
+  step-bound K p d = omega (arith, step-le K p d (L .distance * L .load + L .work) (le-refl _), charges-bound K d)
+
+  pub route-bound : (p : ℕ) (ds : List ℕ) → cost S p ds ≤ length ds * stepLimit L + L .endCost
+  route-bound p [] = omega (arith, W .endCost p)
+  route-bound p (d ∷ ds) = omega (arith, step-bound (maskOf (map (S .task) (d ∷ ds))) p d, route-bound (S .depart d) ds)
+
 -- ---- sheets of kind 1
 
--- the largest numbers of tasks and rules, and fields of 16 and 32 bits; no load is more up than this, nor more down
-unfoldable pub kind1Limits : Limits
-kind1Limits = record {
-  tasks = maxTasks;
-  rules = maxRules;
-  load = 2 ^ 16 - 1 + maxTasks * (2 ^ 15 - 1);
+-- with so many tasks and rules at the most, and fields of 16 and 32 bits; no load is more up than this, nor, of fewer than 2 ^ 16 tasks, more down
+unfoldable pub fieldLimits : ℕ → ℕ → Limits
+fieldLimits tasks rules = record {
+  tasks = tasks;
+  rules = rules;
+  load = 2 ^ 16 - 1 + tasks * (2 ^ 15 - 1);
   distance = 2 ^ 16 - 1;
   work = 2 ^ 32 - 1;
   charge = 2 ^ 32 - 1;
   endCost = 2 ^ 32 - 1;
 }
 
+-- the largest numbers of tasks and rules
+unfoldable pub kind1Limits : Limits
+kind1Limits = fieldLimits maxTasks maxRules
+
+-- the largest that 16 bits hold
+unfoldable pub widthLimits : Limits
+widthLimits = fieldLimits (2 ^ 16 - 1) (2 ^ 16 - 1)
+
 -- no sum needs more than 40 bits
 pub kind1-sums : sumLimit kind1Limits < 2 ^ 40
-unfolding sumLimit kind1Limits
+unfolding sumLimit kind1Limits fieldLimits
 kind1-sums = lit< tt
+
+-- and by the widths alone no sum needs more than 53
+pub width-sums : maxPlanDoors * stepLimit widthLimits + widthLimits .endCost < 2 ^ 53
+unfolding stepLimit widthLimits fieldLimits
+width-sums = lit< tt
 
 -- a rule of kind 1 costs its charge or nothing
 rule-charge-le : (S : Sheet) (K i : ℕ) → ruleCharge S K i ≤ S .charge i
 unfolding ruleCharge
 rule-charge-le S K i = elim (leb (S .leastCount i) _) as (λ t. cond t (S .charge i) 0 ≤ S .charge i) [ true ↦ le-refl (S .charge i) | false ↦ omega arith ]
 
--- a sheet that reads is within these limits
-pub kind1-within : (b : List ℕ) → areBytes b ≡ true → Reads b → WithinLimits kind1Limits (decode b)
-unfolding kind1Limits
-kind1-within b h r =
-    let n : CountsWithin (decode b) = counts-within b (entries-within kind1 b (r .passed-tests .counts)) in
+-- a sheet with no more tasks and rules than that is within these limits
+fields-within : (b : List ℕ) → areBytes b ≡ true → (tasks rules : ℕ) → decode b .tasks ≤ tasks → decode b .rules ≤ rules → tasks < 2 ^ 16
+    → WithinLimits (fieldLimits tasks rules) (decode b)
+unfolding fieldLimits
+fields-within b h tasks rules n r l =
     let w : Widths (decode b) = widths b h in
     record {
-      tasks = n .tasks;
-      rules = n .rules;
-      load = λ K. load-magnitude (decode b) K (2 ^ 15 - 1) (2 ^ 15) (kind1Limits .load) (λ j l. omega (arith, w .change-up j)) (λ j l. w .change-down j) (omega arith) (omega arith);
+      tasks = n;
+      rules = r;
+      load = λ K. load-magnitude (decode b) K (2 ^ 15 - 1) (2 ^ 15) (fieldLimits tasks rules .load)
+          (λ j l. omega (arith, w .change-up j)) (λ j l. w .change-down j) (omega arith) (omega arith);
       distance = λ p q. omega (arith, w .distance p q);
       work = λ d. omega (arith, w .work d);
       charge = λ K i. omega (arith, rule-charge-le (decode b) K i, w .charge i);
       endCost = λ p. omega (arith, w .endCost p);
     }
+
+-- a sheet that reads is within the limits of kind 1
+pub kind1-within : (b : List ℕ) → areBytes b ≡ true → Reads b → WithinLimits kind1Limits (decode b)
+unfolding kind1Limits
+kind1-within b h r =
+    let n : CountsWithin (decode b) = counts-within b (entries-within kind1 b (r .passed-tests .counts)) in
+    fields-within b h maxTasks maxRules (n .tasks) (n .rules) (lit< tt)
+
+-- any sheet is within those of the widths
+pub within-widths : (b : List ℕ) → areBytes b ≡ true → WithinLimits widthLimits (decode b)
+unfolding widthLimits decode decodeBy
+within-widths b h = fields-within b h (2 ^ 16 - 1) (2 ^ 16 - 1) (omega (arith, entries-lt b h tasksBody)) (omega (arith, entries-lt b h rulesBody)) (lit< tt)
 
 -- of a sheet that reads, every completion's cost from every point, every solution's cost and every cost to go is below 2 ^ 40
 module _ (b : List ℕ) (h : areBytes b ≡ true) (r : Reads b) where
@@ -195,3 +244,11 @@ module _ (b : List ℕ) (h : areBytes b ≡ true) (r : Reads b) where
 
   pub to-go-small : (K p : ℕ) → costToGo (decode b) K p < 2 ^ 40
   to-go-small K p = lt-of-le-of-lt (to-go-bound kind1Limits (decode b) (kind1-within b h r) K p) kind1-sums
+
+-- of any bytes, the cost of every step, and of every route through no more doors than a plan has, is below 2 ^ 53
+module _ (b : List ℕ) (h : areBytes b ≡ true) where
+  pub route-small : (p : ℕ) (ds : List ℕ) → length ds ≤ maxPlanDoors → cost (decode b) p ds < 2 ^ 53
+  route-small p ds l = omega (arith, route-bound widthLimits (decode b) (within-widths b h) p ds, mul-le-mul-right (stepLimit widthLimits) l, width-sums)
+
+  pub step-small : (K p d : ℕ) → stepCost (decode b) K p d < 2 ^ 53
+  step-small K p d = omega (arith, step-bound widthLimits (decode b) (within-widths b h) K p d, width-sums)

@@ -61,7 +61,7 @@ pub record Demand1 : Type 0 where
   -- writing a plan is refused with 12 or 21, and then no byte changes; reading one with 12 or 30
   pub writing-a-plan : (n start : ℕ) (doors : List ℕ) (c : ℕ) (buffer : List ℕ) (r : ℕ) → writePlan n start doors c buffer .answer ≡ refused r
       → ((r ≡ 12) ⊎ (r ≡ 21)) × (writePlan n start doors c buffer .bytes ≡ buffer)
-  pub reading-a-plan : (n : ℕ) (q : List ℕ) (r : ℕ) → readPlan n q ≡ refused r → (r ≡ 12) ⊎ (r ≡ 30)
+  pub reading-a-plan : (n lent : ℕ) (q : List ℕ) (r : ℕ) → readPlan n lent q ≡ refused r → (r ≡ 12) ⊎ (r ≡ 30)
 
 -- ---- Demand 2. "A plan put before the judge with a sheet that reads is accepted only, and always, when it is well formed and is a solution in the sense of
 -- (2.4) to (2.10) of document 000 with the cost of (2.12), as document 01 fits them to vans. A plan written and then read has its start, doors and cost again,
@@ -72,17 +72,17 @@ pub record Demand2 : Type 0 where
   pub accepted-iff : (b q : List ℕ) (c : ℕ) (counts : Counts) → areBytes b ≡ true → areBytes q ≡ true → readSheet b ≡ accepted counts
       → (validate b q ≡ accepted c)
       ↔ ((s : ℕ) × (ds : List ℕ) × (isSolution (decode b) s ds ≡ true) × (c ≡ roundCost (decode b) s ds) × (q ≡ planBytes (decode b .tasks) s ds c))
-  -- what was written into any buffer with room for it reads as what was written
-  pub written-then-read : (n start : ℕ) (doors : List ℕ) (c : ℕ) (buffer : List ℕ) → 1 ≤ n → n ≤ maxPlanDoors
+  -- what was written into any buffer with room for it reads as what was written, wherever as many doors are lent
+  pub written-then-read : (n start : ℕ) (doors : List ℕ) (c : ℕ) (buffer : List ℕ) (lent : ℕ) → 1 ≤ n → n ≤ maxPlanDoors → n ≤ length doors → n ≤ lent
       → start < 2 ^ 16 → ((i : ℕ) → i < n → getD doors i 0 < 2 ^ 16) → c < 2 ^ 64 → 32 + 2 * n ≤ length buffer
-      → (x : PlanRead) × (readPlan n (take (32 + 2 * n) (writePlan n start doors c buffer .bytes)) ≡ accepted x)
+      → (x : PlanRead) × (readPlan n lent (take (32 + 2 * n) (writePlan n start doors c buffer .bytes)) ≡ accepted x)
       × (x .start ≡ start) × ((i : ℕ) → i < n → getD (x .doors) i 0 ≡ getD doors i 0) × (x .cost ≡ c)
   -- writing returns the length, and bytes beyond that stay
-  pub rest-stays : (n start : ℕ) (doors : List ℕ) (c : ℕ) (buffer : List ℕ) → 1 ≤ n → n ≤ maxPlanDoors → 32 + 2 * n ≤ length buffer
+  pub rest-stays : (n start : ℕ) (doors : List ℕ) (c : ℕ) (buffer : List ℕ) → 1 ≤ n → n ≤ maxPlanDoors → n ≤ length doors → 32 + 2 * n ≤ length buffer
       → (writePlan n start doors c buffer .answer ≡ accepted (32 + 2 * n))
       × (drop (32 + 2 * n) (writePlan n start doors c buffer .bytes) ≡ drop (32 + 2 * n) buffer)
   -- what reads as a plan is what writing that plan yields
-  pub read-then-written : (n : ℕ) (q : List ℕ) (x : PlanRead) → areBytes q ≡ true → readPlan n q ≡ accepted x
+  pub read-then-written : (n lent : ℕ) (q : List ℕ) (x : PlanRead) → areBytes q ≡ true → readPlan n lent q ≡ accepted x
       → (buffer : List ℕ) → length buffer ≡ length q → writePlan n (x .start) (x .doors) (x .cost) buffer .bytes ≡ q
 
 -- ---- Demand 3. "For every sheet that passes 10 to 16, with room lent for work and plan and whatever stood in either before, planning refuses, with 17, exactly
@@ -108,7 +108,7 @@ doorsOf b x = take (decode b .tasks) (x .doors)
 pub record Cheapest (b cells buffer : List ℕ) : Type 0 where
   -- the first 32 + 2N bytes read as a plan, and the rest of the buffer stays
   pub written : PlanRead
-  pub reads-as : readPlan (decode b .tasks) (take (32 + 2 * decode b .tasks) (plan b cells buffer .bytes)) ≡ accepted written
+  pub reads-as : readPlan (decode b .tasks) maxPlanDoors (take (32 + 2 * decode b .tasks) (plan b cells buffer .bytes)) ≡ accepted written
   pub rest-stays : drop (32 + 2 * decode b .tasks) (plan b cells buffer .bytes) ≡ drop (32 + 2 * decode b .tasks) buffer
   -- which is a solution, with its cost, and the cost answered is the same
   pub solution : isSolution (decode b) (written .start) (doorsOf b written) ≡ true
@@ -169,21 +169,20 @@ demand-2 = record {
   accepted-iff = λ b q c N hb hq e.
       let R : Reads b = accepted-reads b _ N e .0 in
       validate-iff b q c hq R (λ s ds h. lt-of-lt-of-le (round-small b hb R s ds h) (lit≤ tt));
-  written-then-read = λ n start doors c buffer one few hs hd hc room.
-      let t = tasks-fit n one few in
-      let w = written n start doors c buffer t (rw length-is room) in (
-        record { start = start; doors = doorArray n (λ i. getD doors i 0); cost = c },
-        rw (← length-is n) (ap (readPlan n) (w .1) ∙ read-what-was-written n start doors c t hs hd hc),
+  written-then-read = λ n start doors c buffer lent one few there here hs hd hc room.
+      let w = written n start doors c buffer (tasks-fit n (length doors) one few there) (rw length-is room) in (
+        record { start = start; doors = doorArray lent n (λ i. getD doors i 0); cost = c },
+        rw (← length-is n) (ap (readPlan n lent) (w .1) ∙ read-what-was-written n lent start doors c (tasks-fit n lent one few here) hs hd hc),
         refl,
-        (λ i l. array-at n (λ i. getD doors i 0) i few l),
+        (λ i l. array-at lent n (λ i. getD doors i 0) i here l),
         refl,
       );
-  rest-stays = λ n start doors c buffer one few room.
-      let w = written n start doors c buffer (tasks-fit n one few) (rw length-is room) in
+  rest-stays = λ n start doors c buffer one few there room.
+      let w = written n start doors c buffer (tasks-fit n (length doors) one few there) (rw length-is room) in
       rw (← length-is n) (w .0, w .2);
-  read-then-written = λ n q x hq e buffer same.
-      let l = read-length n q x e in
-      written-whole n (x .start) (x .doors) (x .cost) buffer (l .0) (same ∙ l .1) ∙ write-what-was-read n q x hq e;
+  read-then-written = λ n lent q x hq e buffer same.
+      let l = read-length n lent q x e in
+      written-whole n (x .start) (x .doors) (x .cost) buffer (rw (l .2) (l .0)) (same ∙ l .1) ∙ write-what-was-read n lent q x hq e;
 }
 
 module _ (b cells buffer : List ℕ) (L : Lent b cells buffer) where
@@ -218,17 +217,17 @@ module _ (b cells buffer : List ℕ) (L : Lent b cells buffer) where
     solves : isSolution (decode b) (x .start) (x .doors) ≡ true
     solves = cheapest-solution (decode b) x is-cheapest
 
-    doors-are : take (decode b .tasks) (doorArray (decode b .tasks) (λ i. getD (x .doors) i 0)) ≡ x .doors
-    doors-are = array-front (decode b .tasks) (x .doors) (counts .tasks)
+    doors-are : take (decode b .tasks) (doorArray maxPlanDoors (decode b .tasks) (λ i. getD (x .doors) i 0)) ≡ x .doors
+    doors-are = array-front maxPlanDoors (decode b .tasks) (x .doors) (counts .tasks)
         (solution-length (decode b) (x .start) (x .doors) (solution (decode b) (x .start) (x .doors) solves))
 
-    read-back : readPlan (decode b .tasks) (planBytes (decode b .tasks) (x .start) (x .doors) (planCost (decode b) x))
-        ≡ accepted (record { start = x .start; doors = doorArray (decode b .tasks) (λ i. getD (x .doors) i 0); cost = planCost (decode b) x })
+    read-back : readPlan (decode b .tasks) maxPlanDoors (planBytes (decode b .tasks) (x .start) (x .doors) (planCost (decode b) x))
+        ≡ accepted (record { start = x .start; doors = doorArray maxPlanDoors (decode b .tasks) (λ i. getD (x .doors) i 0); cost = planCost (decode b) x })
     unfolding planCost
     read-back =
         let W : CountsWithin (decode b) = counts in
         let small = solution-fits (decode b) W (x .start) (x .doors) (solution (decode b) (x .start) (x .doors) solves) in
-        read-what-was-written (decode b .tasks) (x .start) (x .doors) (planCost (decode b) x) (tasks-fit (decode b .tasks) (W .one-task) (W .tasks)) (small .0) (small .1)
+        read-what-was-written (decode b .tasks) maxPlanDoors (x .start) (x .doors) (planCost (decode b) x) (tasks-fit (decode b .tasks) maxPlanDoors (W .one-task) (W .tasks) (W .tasks)) (small .0) (small .1)
         (lt-of-lt-of-le (round-small b (L .bytes) reads (x .start) (x .doors) solves) (lit≤ tt))
 
     -- the cell of a list and a point is lent
@@ -246,8 +245,8 @@ module _ (b cells buffer : List ℕ) (L : Lent b cells buffer) where
     cheapest-planned : Cheapest b cells buffer
     unfolding planCost
     cheapest-planned = record {
-      written = record { start = x .start; doors = doorArray (decode b .tasks) (λ i. getD (x .doors) i 0); cost = planCost (decode b) x };
-      reads-as = rw (← length-is (decode b .tasks)) (ap (readPlan (decode b .tasks)) (over .0) ∙ read-back);
+      written = record { start = x .start; doors = doorArray maxPlanDoors (decode b .tasks) (λ i. getD (x .doors) i 0); cost = planCost (decode b) x };
+      reads-as = rw (← length-is (decode b .tasks)) (ap (readPlan (decode b .tasks) maxPlanDoors) (over .0) ∙ read-back);
       rest-stays = rw (← length-is (decode b .tasks)) (over .1);
       solution = rw doors-are solves;
       its-cost = rw doors-are;

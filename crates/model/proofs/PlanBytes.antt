@@ -9,13 +9,13 @@ use lib.Dec.{eqb, ltb}
 use lib.ListN.{length, getD, take, drop, length-append, drop-of-length-le}
 use lib.Pow.{areBytes}
 use lib.Seq.{length-take-le, take-at, take-all, getD-take, ext-getD}
-use borrow.Author.Tests.{ltb-true, eqb-true, eq-eqb, lt-ltb, le-ltb, not-false}
-use Rattle.model.specs.Folds.{mapBelow}
+use borrow.Author.Tests.{ltb-true, ltb-false, eqb-true, eq-eqb, lt-ltb, le-ltb, not-false}
+use Rattle.model.specs.Folds.{mapBelow, isBetween}
 use Rattle.model.specs.Bytes.{numberAt, bytesOf, overwrite}
 use Rattle.model.specs.Answer.{Answer, refused, accepted, refuseIf}
 use Rattle.model.specs.SheetLayout.{lineAt}
 use Rattle.model.specs.PlanLayout.{maxPlanDoors, planStartAt, planDoorsAt, planCostAt, planLength, lineBytes, planHead, planBytes, wrongTasks, writeAnswer, bytesWritten, writePlan, illFormed, startIn, doorIn, doorsIn, costIn, doorArray, PlanRead, readPlan}
-use Rattle.model.proofs.Tests.{tested, or-left, or-right, same-list, list-same, between-true, between-is}
+use Rattle.model.proofs.Tests.{tested, or-left, or-right, or-neither, same-list, list-same, between-true, between-is}
 use Rattle.model.proofs.Folds.{flat-cong}
 use Rattle.model.proofs.Reading.{refused≢accepted, refused-number, accepted-value, passed}
 use Rattle.model.proofs.Folds.{length-mapBelow, mapBelow-at}
@@ -27,9 +27,16 @@ pub length-is : (n : ℕ) → planLength n ≡ 32 + 2 * n
 unfolding planLength planCostAt planDoorsAt planStartAt lineAt
 length-is n = omega arith
 
-pub tasks-fit : (n : ℕ) → 1 ≤ n → n ≤ maxPlanDoors → wrongTasks n ≡ false
+pub tasks-fit : (n lent : ℕ) → 1 ≤ n → n ≤ maxPlanDoors → n ≤ lent → wrongTasks n lent ≡ false
 unfolding wrongTasks
-tasks-fit n l h = ap not (between-is 1 maxPlanDoors n l h)
+tasks-fit n lent l h k = or-neither (ap not (between-is 1 maxPlanDoors n l h)) (le-ltb lent n k)
+
+-- what 12 does not refuse
+pub fitting : (n lent : ℕ) → wrongTasks n lent ≡ false → (1 ≤ n) × (n ≤ maxPlanDoors) × (n ≤ lent)
+unfolding wrongTasks
+fitting n lent h =
+    let b = between-true 1 maxPlanDoors n (not-false _ (or-left (not (isBetween 1 maxPlanDoors n)) _ h)) in
+    (b .0, b .1, ltb-false lent n (or-right (not (isBetween 1 maxPlanDoors n)) _ h))
 
 length-head : (n : ℕ) → length (planHead n) ≡ planStartAt
 unfolding planHead lineBytes planStartAt lineAt
@@ -110,30 +117,34 @@ unfolding costIn planBytes
 cost-again n s ds c h = rw (← length-to-doors n s ds) (read-last 8 c (toDoors n s ds) h)
 
 -- the array that reading fills
-array-cong : (n : ℕ) (f g : ℕ → ℕ) → ((i : ℕ) → i < n → f i ≡ g i) → doorArray n f ≡ doorArray n g
+array-cong : (lent n : ℕ) (f g : ℕ → ℕ) → ((i : ℕ) → i < n → f i ≡ g i) → doorArray lent n f ≡ doorArray lent n g
 unfolding doorArray mapBelow
-array-cong n f g h = flat-cong maxPlanDoors (λ i. cond (ltb i n) (f i) 0 ∷ []) (λ i. cond (ltb i n) (g i) 0 ∷ []) (λ i l. ⊎-elim
+array-cong lent n f g h = flat-cong lent (λ i. cond (ltb i n) (f i) 0 ∷ []) (λ i. cond (ltb i n) (g i) 0 ∷ []) (λ i l. ⊎-elim
     (λ (w : ltb i n ≡ true). rw (w, h i (ltb-true i n w)))
     (λ (w : ltb i n ≡ false). rw w)
     (tested (ltb i n)))
 
-pub array-at : (n : ℕ) (f : ℕ → ℕ) (i : ℕ) → n ≤ maxPlanDoors → i < n → getD (doorArray n f) i 0 ≡ f i
+pub length-array : (lent n : ℕ) (f : ℕ → ℕ) → length (doorArray lent n f) ≡ lent
 unfolding doorArray
-array-at n f i h l = mapBelow-at maxPlanDoors (λ i. cond (ltb i n) (f i) 0) i 0 (omega arith) ∙ rw (lt-ltb i n l)
+length-array lent n f = length-mapBelow lent _
 
-pub array-front : (n : ℕ) (ds : List ℕ) → n ≤ maxPlanDoors → length ds ≡ n → take n (doorArray n (λ i. getD ds i 0)) ≡ ds
+pub array-at : (lent n : ℕ) (f : ℕ → ℕ) (i : ℕ) → n ≤ lent → i < n → getD (doorArray lent n f) i 0 ≡ f i
 unfolding doorArray
-array-front n ds h e =
-    let l : length (take n (doorArray n (λ i. getD ds i 0))) ≡ n = length-take-le n _ (rw length-mapBelow h) in
-    ext-getD 0 _ ds (l ∙ sym e) (λ i m. let k : i < n = rw l at m in getD-take n _ i 0 k ∙ array-at n (λ i. getD ds i 0) i h k)
+array-at lent n f i h l = mapBelow-at lent (λ i. cond (ltb i n) (f i) 0) i 0 (omega arith) ∙ rw (lt-ltb i n l)
+
+pub array-front : (lent n : ℕ) (ds : List ℕ) → n ≤ lent → length ds ≡ n → take n (doorArray lent n (λ i. getD ds i 0)) ≡ ds
+unfolding doorArray
+array-front lent n ds h e =
+    let l : length (take n (doorArray lent n (λ i. getD ds i 0))) ≡ n = length-take-le n _ (rw length-mapBelow h) in
+    ext-getD 0 _ ds (l ∙ sym e) (λ i m. let k : i < n = rw l at m in getD-take n _ i 0 k ∙ array-at lent n (λ i. getD ds i 0) i h k)
 
 -- a plan written and then read has its start, doors and cost again
-pub read-what-was-written : (n s : ℕ) (ds : List ℕ) (c : ℕ) → wrongTasks n ≡ false → s < 2 ^ 16 → ((i : ℕ) → i < n → getD ds i 0 < 2 ^ 16) → c < 2 ^ 64
-    → readPlan n (planBytes n s ds c) ≡ accepted (record { start = s; doors = doorArray n (λ i. getD ds i 0); cost = c })
+pub read-what-was-written : (n lent s : ℕ) (ds : List ℕ) (c : ℕ) → wrongTasks n lent ≡ false → s < 2 ^ 16 → ((i : ℕ) → i < n → getD ds i 0 < 2 ^ 16) → c < 2 ^ 64
+    → readPlan n lent (planBytes n s ds c) ≡ accepted (record { start = s; doors = doorArray lent n (λ i. getD ds i 0); cost = c })
 unfolding readPlan
-read-what-was-written n s ds c t hs hd hc = rw (t, plan-well-formed n s ds c) (λ j. accepted (record {
+read-what-was-written n lent s ds c t hs hd hc = rw (t, plan-well-formed n s ds c) (λ j. accepted (record {
   start = start-again n s ds c hs j;
-  doors = array-cong n (doorIn (planBytes n s ds c)) (λ i. getD ds i 0) (λ i l. door-again n s ds c i l (hd i l)) j;
+  doors = array-cong lent n (doorIn (planBytes n s ds c)) (λ i. getD ds i 0) (λ i l. door-again n s ds c i l (hd i l)) j;
   cost = cost-again n s ds c hc j;
 }))
 
@@ -154,22 +165,25 @@ well-formed-is n q b h =
     ) (take-all (planLength n) q (omega arith))
 
 -- bytes that read as a plan are as many as its layout says
-pub read-length : (n : ℕ) (q : List ℕ) (r : PlanRead) → readPlan n q ≡ accepted r → (wrongTasks n ≡ false) × (length q ≡ planLength n)
+pub read-length : (n lent : ℕ) (q : List ℕ) (r : PlanRead) → readPlan n lent q ≡ accepted r → (wrongTasks n lent ≡ false) × (length q ≡ planLength n) × (length (r .doors) ≡ lent)
 unfolding readPlan illFormed
-read-length n q r e =
-    let e₁ = passed (wrongTasks n) 12 _ r e in
-    let e₂ = passed (illFormed n q) 30 _ r (e₁ .1) in
-    (e₁ .0, eqb-true _ _ (not-false _ (or-left (not (eqb (length q) (planLength n))) _ (e₂ .0))))
+read-length n lent q r e =
+    let e₁ = passed (wrongTasks n lent) 12 _ r e in
+    let e₂ = passed (illFormed n q) 30 _ r (e₁ .1) in (
+      e₁ .0,
+      eqb-true _ _ (not-false _ (or-left (not (eqb (length q) (planLength n))) _ (e₂ .0))),
+      subst (λ (x : PlanRead). length (x .doors) ≡ lent) (accepted-value (e₂ .1)) (length-array lent n (doorIn q)),
+    )
 
 -- bytes that read as a plan are those that writing it yields
-pub write-what-was-read : (n : ℕ) (q : List ℕ) (r : PlanRead) → areBytes q ≡ true → readPlan n q ≡ accepted r → planBytes n (r .start) (r .doors) (r .cost) ≡ q
-unfolding readPlan wrongTasks doorsIn
-write-what-was-read n q r b e =
-    let e₁ = passed (wrongTasks n) 12 _ r e in
+pub write-what-was-read : (n lent : ℕ) (q : List ℕ) (r : PlanRead) → areBytes q ≡ true → readPlan n lent q ≡ accepted r → planBytes n (r .start) (r .doors) (r .cost) ≡ q
+unfolding readPlan doorsIn
+write-what-was-read n lent q r b e =
+    let e₁ = passed (wrongTasks n lent) 12 _ r e in
     let e₂ = passed (illFormed n q) 30 _ r (e₁ .1) in
-    let h : n ≤ maxPlanDoors = between-true 1 maxPlanDoors n (not-false _ (e₁ .0)) .1 in
+    let h : n ≤ lent = fitting n lent (e₁ .0) .2 in
     subst (λ (x : PlanRead). planBytes n (x .start) (x .doors) (x .cost) ≡ q) (accepted-value (e₂ .1))
-    (plan-cong n (startIn q) (doorArray n (doorIn q)) (doorsIn n q) (costIn n q) (λ i l. array-at n (doorIn q) i h l ∙ sym (mapBelow-at n (doorIn q) i 0 l))
+    (plan-cong n (startIn q) (doorArray lent n (doorIn q)) (doorsIn n q) (costIn n q) (λ i l. array-at lent n (doorIn q) i h l ∙ sym (mapBelow-at n (doorIn q) i 0 l))
     ∙ well-formed-is n q b (e₂ .0))
 
 -- ---- writing into a buffer
@@ -179,22 +193,22 @@ pub plan-over : (n s : ℕ) (ds : List ℕ) (c : ℕ) (buffer : List ℕ)
     → (take (planLength n) (overwrite (planBytes n s ds c) buffer) ≡ planBytes n s ds c) × (drop (planLength n) (overwrite (planBytes n s ds c) buffer) ≡ drop (planLength n) buffer)
 plan-over n s ds c buffer = rw length-plan at (overwritten (planBytes n s ds c) buffer)
 
-write-accepts : (n room : ℕ) → wrongTasks n ≡ false → planLength n ≤ room → writeAnswer n room ≡ accepted (planLength n)
+write-accepts : (n lent room : ℕ) → wrongTasks n lent ≡ false → planLength n ≤ room → writeAnswer n lent room ≡ accepted (planLength n)
 unfolding writeAnswer
-write-accepts n room t l = rw (t, le-ltb room (planLength n) l)
+write-accepts n lent room t l = rw (t, le-ltb room (planLength n) l)
 
 -- writing, where there is room
-pub written : (n s : ℕ) (ds : List ℕ) (c : ℕ) (buffer : List ℕ) → wrongTasks n ≡ false → planLength n ≤ length buffer
+pub written : (n s : ℕ) (ds : List ℕ) (c : ℕ) (buffer : List ℕ) → wrongTasks n (length ds) ≡ false → planLength n ≤ length buffer
     → (writePlan n s ds c buffer .answer ≡ accepted (planLength n))
     × (take (planLength n) (writePlan n s ds c buffer .bytes) ≡ planBytes n s ds c)
     × (drop (planLength n) (writePlan n s ds c buffer .bytes) ≡ drop (planLength n) buffer)
 unfolding writePlan bytesWritten
-written n s ds c buffer t l = let over = plan-over n s ds c buffer in rw (write-accepts n (length buffer) t l) (refl, over .0, over .1)
+written n s ds c buffer t l = let over = plan-over n s ds c buffer in rw (write-accepts n (length ds) (length buffer) t l) (refl, over .0, over .1)
 
 -- a buffer of just that length holds the plan and nothing else
-pub written-whole : (n s : ℕ) (ds : List ℕ) (c : ℕ) (buffer : List ℕ) → wrongTasks n ≡ false → length buffer ≡ planLength n → writePlan n s ds c buffer .bytes ≡ planBytes n s ds c
+pub written-whole : (n s : ℕ) (ds : List ℕ) (c : ℕ) (buffer : List ℕ) → wrongTasks n (length ds) ≡ false → length buffer ≡ planLength n → writePlan n s ds c buffer .bytes ≡ planBytes n s ds c
 unfolding writePlan bytesWritten overwrite
-written-whole n s ds c buffer t e = rw (write-accepts n (length buffer) t (omega arith), length-plan n s ds c, drop-of-length-le buffer {i = planLength n} (omega arith)) (append-nil (planBytes n s ds c))
+written-whole n s ds c buffer t e = rw (write-accepts n (length ds) (length buffer) t (omega arith), length-plan n s ds c, drop-of-length-le buffer {i = planLength n} (omega arith)) (append-nil (planBytes n s ds c))
 
 -- of two faults, one was the answer
 either : {A : Type 0} (t u : Bool) (m n : ℕ) (x : A) (r : ℕ) → refuseIf t m (refuseIf u n (accepted x)) ≡ refused r → (r ≡ m) ⊎ (r ≡ n)
@@ -206,9 +220,9 @@ either false false m n x r e = absurd (refused≢accepted (sym e))
 pub write-refusals : (n s : ℕ) (ds : List ℕ) (c : ℕ) (buffer : List ℕ) (r : ℕ) → writePlan n s ds c buffer .answer ≡ refused r
     → ((r ≡ 12) ⊎ (r ≡ 21)) × (writePlan n s ds c buffer .bytes ≡ buffer)
 unfolding writePlan writeAnswer bytesWritten
-write-refusals n s ds c buffer r e = (either (wrongTasks n) (ltb (length buffer) (planLength n)) 12 21 (planLength n) r e, ap (λ (a : Answer ℕ). bytesWritten a (planBytes n s ds c) buffer) e)
+write-refusals n s ds c buffer r e = (either (wrongTasks n (length ds)) (ltb (length buffer) (planLength n)) 12 21 (planLength n) r e, ap (λ (a : Answer ℕ). bytesWritten a (planBytes n s ds c) buffer) e)
 
 -- what reading refuses
-pub read-refusals : (n : ℕ) (q : List ℕ) (r : ℕ) → readPlan n q ≡ refused r → (r ≡ 12) ⊎ (r ≡ 30)
+pub read-refusals : (n lent : ℕ) (q : List ℕ) (r : ℕ) → readPlan n lent q ≡ refused r → (r ≡ 12) ⊎ (r ≡ 30)
 unfolding readPlan
-read-refusals n q r e = either (wrongTasks n) (illFormed n q) 12 30 _ r e
+read-refusals n lent q r e = either (wrongTasks n lent) (illFormed n q) 12 30 _ r e

@@ -2,8 +2,8 @@
 use mathlib.Core.Bool.{cond}
 use mathlib.Core.List.{List, [], _∷_, _++_}
 use Prim.Native.Nat.{ℕ, zero, suc, _+_, _-_, _*_, _/_, _%_, _^_}
-use lib.Dec.{ltb}
-use lib.ListN.{length, getD, drop}
+use lib.Dec.{ltb, leb}
+use lib.ListN.{length, getD, take, drop}
 use lib.IntN.{ℤ, pos, negsuc}
 
 -- the number in the k bytes from byte i on; a byte beyond the end counts as 0 (01, Layout of a task sheet)
@@ -23,3 +23,7 @@ bytesOf (suc k) n = n % 256 ∷ bytesOf k (n / 256)
 -- the buffer with the bytes at its front; the rest of it stays (01, Layout of a plan)
 unfoldable pub overwrite : List ℕ → List ℕ → List ℕ
 overwrite bytes buffer = bytes ++ drop (length bytes) buffer
+
+-- the buffer with the bytes from byte i on, if they fit; else as it is (01, Layout of a plan)
+unfoldable pub overwriteAt : ℕ → List ℕ → List ℕ → List ℕ
+overwriteAt i bytes buffer = cond (leb (i + length bytes) (length buffer)) (take i buffer ++ bytes ++ drop (i + length bytes) buffer) buffer

@@ -6,9 +6,12 @@ use lib.Dec.{eqb}
 use lib.ListN.{length, take, set}
 use Rattle.model.specs.Folds.{sameList}
 use Rattle.model.specs.Plans.{roundCost}
+use Rattle.model.specs.Bytes.{overwriteAt}
 use Rattle.model.specs.Answer.{Answer, refused, accepted, status, placed}
 use Rattle.model.specs.SheetLayout.{maxPoints, kind1, sheetLength, decode}
 use Rattle.model.specs.Faults.{Counts, readSheet}
+use Rattle.model.specs.PlanLayout.{writePlan, PlanRead, readPlan}
+use Rattle.model.specs.PlanInHand.{PlanInHand, noDoors, withDoors, inHand}
 use Rattle.model.specs.Validating.{validate}
 use Rattle.model.specs.Planning.{Planned, plan}
 use Rattle.model.specs.Printing.{ascii, printed}
@@ -160,6 +163,19 @@ abbrev readingAnswers : Answer Counts → ℕ → ℕ → Bool
 readingAnswers (refused m) N P = false
 readingAnswers (accepted c) N P = eqb (c .tasks) N && eqb (c .points) P
 
+-- reading a plan refuses with n; it answers a start, doors and a cost
+abbrev planRefuses : Answer PlanRead → ℕ → Bool
+planRefuses (refused m) n = eqb m n
+planRefuses (accepted x) n = false
+
+abbrev planAnswers : Answer PlanRead → ℕ → List ℕ → ℕ → Bool
+planAnswers (refused m) start doors cost = false
+planAnswers (accepted x) start doors cost = eqb (x .start) start && sameList (x .doors) doors && eqb (x .cost) cost
+
+-- a plan in hand has these doors in its array, so many of them its own, and this cost
+abbrev holds : PlanInHand → List ℕ → ℕ → ℕ → Bool
+holds x doors count cost = sameList (x .doors) doors && eqb (x .count) count && eqb (x .cost) cost
+
 -- planning answers the cost, and leaves these cells and these plan bytes in front of the noise
 abbrev planning : Planned → ℕ → List ℕ → List ℕ → Bool
 planning r cost cells bytes =
@@ -205,7 +221,7 @@ checkStarred =
     -- the print program
     && sameList (printed sheetA) (ascii "cost 92\nstart 0\ndoor 0 task 0 open 3\ndoor 1 task 1 open 2\n")
 
--- what the starred lines do not see: the unstarred lines on room, the numbers 10 to 15, refusals in print, and sheet B, whose figures are those of an
+-- what the starred lines do not see: the unstarred lines on room, the numbers 10 to 15, plans written, read and in hand, refusals in print, and sheet B, whose figures are those of an
 -- enumeration made apart from these definitions
 unfoldable pub checkFurther : Bool
 checkFurther =
@@ -226,6 +242,27 @@ checkFurther =
     -- a judged plan of 35 bytes; door 2
     && sameAnswer (validate sheetA (take 35 planA)) (refused 30)
     && sameAnswer (validate sheetA (planLikeA 0 2 92)) (refused 31)
+    -- the plan of A written, with three doors lent and three bytes to spare; a buffer of 35 bytes, no door, thirteen doors, one door lent
+    && sameAnswer (writePlan 2 0 (0 ∷ 1 ∷ 7 ∷ []) 92 byteNoise .answer) (accepted 36)
+    && sameList (writePlan 2 0 (0 ∷ 1 ∷ 7 ∷ []) 92 byteNoise .bytes) (planA ++ (237 ∷ 238 ∷ 239 ∷ []))
+    && sameAnswer (writePlan 2 0 (0 ∷ 1 ∷ []) 92 (take 35 byteNoise) .answer) (refused 21)
+    && sameList (writePlan 2 0 (0 ∷ 1 ∷ []) 92 (take 35 byteNoise) .bytes) (take 35 byteNoise)
+    && sameAnswer (writePlan 0 0 (0 ∷ 1 ∷ []) 92 byteNoise .answer) (refused 12)
+    && sameAnswer (writePlan 13 0 byteNoise 92 (byteNoise ++ byteNoise) .answer) (refused 12)
+    && sameAnswer (writePlan 2 0 (0 ∷ []) 92 (take 35 byteNoise) .answer) (refused 12)
+    && sameList (writePlan 2 0 (0 ∷ []) 92 byteNoise .bytes) byteNoise
+    -- and read, with three doors lent; with one door lent, for three tasks, and with a byte too many
+    && planAnswers (readPlan 2 3 planA) 0 (0 ∷ 1 ∷ 0 ∷ []) 92
+    && planRefuses (readPlan 2 1 planA) 12
+    && planRefuses (readPlan 3 3 planA) 30
+    && planRefuses (readPlan 2 2 (planA ++ (0 ∷ []))) 30
+    -- a plan in hand: that of A, and one that is handed thirteen doors
+    && holds (inHand 2 planA) (0 ∷ 1 ∷ 0 ∷ 0 ∷ 0 ∷ 0 ∷ 0 ∷ 0 ∷ 0 ∷ 0 ∷ 0 ∷ 0 ∷ []) 2 92
+    && holds (withDoors (noDoors 5) (take 13 byteNoise)) (take 12 byteNoise) 12 5
+    -- two bytes written within a buffer, at its end, and past it
+    && sameList (overwriteAt 1 (7 ∷ 8 ∷ []) (1 ∷ 2 ∷ 3 ∷ 4 ∷ [])) (1 ∷ 7 ∷ 8 ∷ 4 ∷ [])
+    && sameList (overwriteAt 2 (7 ∷ 8 ∷ []) (1 ∷ 2 ∷ 3 ∷ 4 ∷ [])) (1 ∷ 2 ∷ 7 ∷ 8 ∷ [])
+    && sameList (overwriteAt 3 (7 ∷ 8 ∷ []) (1 ∷ 2 ∷ 3 ∷ 4 ∷ [])) (1 ∷ 2 ∷ 3 ∷ 4 ∷ [])
     -- the shortest sheet has 66 bytes, the longest 9,638
     && eqb (sheetLength kind1 (kind1 .fewest 1)) 66
     && eqb (sheetLength kind1 (kind1 .most maxPoints)) 9638

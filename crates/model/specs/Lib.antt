@@ -9,6 +9,7 @@ pub mod Answer
 pub mod SheetLayout
 pub mod Faults
 pub mod PlanLayout
+pub mod PlanInHand
 pub mod Validating
 pub mod Planning
 pub mod Printing

@@ -49,9 +49,10 @@ planHead n = bytesOf 2 planKind ++ bytesOf 2 0 ++ lineBytes 1 planStartAt 1 ++ l
 unfoldable pub planBytes : ℕ → ℕ → List ℕ → ℕ → List ℕ
 planBytes n start doors cost = planHead n ++ bytesOf 2 start ++ flatMapBelow n (λ i. bytesOf 2 (getD doors i 0)) ++ bytesOf 8 cost
 
--- 12: the number of tasks is outside the room of a plan
-unfoldable pub wrongTasks : ℕ → Bool
-wrongTasks n = not (isBetween 1 maxPlanDoors n)
+-- 12: the number of tasks is outside the room of a plan, or above the number of doors lent. Document 01 lends an array of twelve, which the second never refuses;
+-- the C interface lends any number
+unfoldable pub wrongTasks : ℕ → ℕ → Bool
+wrongTasks n lent = not (isBetween 1 maxPlanDoors n) || ltb lent n
 
 -- what writing answers, the length, and the whole buffer afterwards
 pub record PlanWritten : Type 0 where
@@ -59,19 +60,19 @@ pub record PlanWritten : Type 0 where
   pub bytes : List ℕ
 
 -- 12, then 21 for a buffer that is too short, else the length
-unfoldable pub writeAnswer : ℕ → ℕ → Answer ℕ
-writeAnswer n room = refuseIf (wrongTasks n) 12 (refuseIf (ltb room (planLength n)) 21 (accepted (planLength n)))
+unfoldable pub writeAnswer : ℕ → ℕ → ℕ → Answer ℕ
+writeAnswer n lent room = refuseIf (wrongTasks n lent) 12 (refuseIf (ltb room (planLength n)) 21 (accepted (planLength n)))
 
 -- a refusal leaves the buffer as it was
 unfoldable pub bytesWritten : Answer ℕ → List ℕ → List ℕ → List ℕ
 bytesWritten (refused r) bytes buffer = buffer
 bytesWritten (accepted l) bytes buffer = overwrite bytes buffer
 
--- writing takes n, a start, the first n of an array of twelve doors, a cost and the buffer as lent
+-- writing takes n, a start, the first n of the doors lent, a cost and the buffer as lent
 unfoldable pub writePlan : ℕ → ℕ → List ℕ → ℕ → List ℕ → PlanWritten
 writePlan n start doors cost buffer = record {
-  answer = writeAnswer n (length buffer);
-  bytes = bytesWritten (writeAnswer n (length buffer)) (planBytes n start doors cost) buffer;
+  answer = writeAnswer n (length doors) (length buffer);
+  bytes = bytesWritten (writeAnswer n (length doors) (length buffer)) (planBytes n start doors cost) buffer;
 }
 
 -- ---- reading
@@ -96,19 +97,19 @@ doorsIn n q = mapBelow n (doorIn q)
 unfoldable pub costIn : ℕ → List ℕ → ℕ
 costIn n q = numberAt 8 q (planCostAt n)
 
--- n doors in an array of twelve; those beyond n are 0
-unfoldable pub doorArray : ℕ → (ℕ → ℕ) → List ℕ
-doorArray n door = mapBelow maxPlanDoors (λ i. cond (ltb i n) (door i) 0)
+-- n doors where so many are lent; those from n on are 0
+unfoldable pub doorArray : ℕ → ℕ → (ℕ → ℕ) → List ℕ
+doorArray lent n door = mapBelow lent (λ i. cond (ltb i n) (door i) 0)
 
--- what reading answers: start, doors and cost
+-- what reading answers: start, cost, and as many doors as are lent
 pub record PlanRead : Type 0 where
   pub start : ℕ
   pub doors : List ℕ
   pub cost : ℕ
 
--- reading takes n and the bytes
-unfoldable pub readPlan : ℕ → List ℕ → Answer PlanRead
-readPlan n q =
-    refuseIf (wrongTasks n) 12
+-- reading takes n, the number of doors lent, and the bytes
+unfoldable pub readPlan : ℕ → ℕ → List ℕ → Answer PlanRead
+readPlan n lent q =
+    refuseIf (wrongTasks n lent) 12
     (refuseIf (illFormed n q) 30
-    (accepted (record { start = startIn q; doors = doorArray n (doorIn q); cost = costIn n q })))
+    (accepted (record { start = startIn q; doors = doorArray lent n (doorIn q); cost = costIn n q })))

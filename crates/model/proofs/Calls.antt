@@ -1,0 +1,76 @@
+-- Demands 1 and 2 as the C interface shows them: by what a call returns and by what it leaves in the places that it was lent. Assumes nothing.
+use mathlib.Core.Path.{_≡_, refl, sym, ap, _∙_}
+use mathlib.Core.Logic.{_⊎_, ⊎-elim, _↔_}
+use mathlib.Core.Bool.{true}
+use mathlib.Core.List.{List}
+use Prim.Native.Nat.{ℕ, _+_, _*_, _^_, _≤_, _<_}
+use native.Mathlib.Omega.{arith}
+use lib.ListN.{length, getD, take}
+use lib.Pow.{areBytes}
+use Rattle.model.specs.Plans.{isSolution, roundCost}
+use Rattle.model.specs.Answer.{Answer, refused, accepted, status, placed}
+use Rattle.model.specs.SheetLayout.{decode}
+use Rattle.model.specs.Faults.{readSheet}
+use Rattle.model.specs.PlanLayout.{maxPlanDoors, planBytes, PlanRead, writePlan, readPlan}
+use Rattle.model.specs.Validating.{validate}
+use Rattle.model.proofs.Demands.{SheetNumber, demand-1, demand-2}
+
+-- ---- what is returned
+
+-- a call whose refusals all have numbers above 0 returns 0 only where it accepted
+pub returned-0 : {A : Type 0} (a : Answer A) → ((r : ℕ) → a ≡ refused r → 0 < r) → status a ≡ 0 → (x : A) × (a ≡ accepted x)
+returned-0 (refused r) h e = absurd (omega (arith, h r refl))
+returned-0 (accepted x) h e = (x, refl)
+
+-- reading, judging, and writing and reading a plan are such calls
+sheet-number : (r : ℕ) → SheetNumber r → 0 < r
+sheet-number r h = omega (arith, h .0)
+
+pub reading-returns : (b : List ℕ) (r : ℕ) → readSheet b ≡ refused r → 0 < r
+reading-returns b r e = sheet-number r (demand-1 .reading b r e)
+
+pub judging-returns : (b q : List ℕ) (r : ℕ) → validate b q ≡ refused r → 0 < r
+judging-returns b q r e = ⊎-elim (sheet-number r) (λ (h : (30 ≤ r) × (r ≤ 34)). omega (arith, h .0)) (demand-1 .judging b q r e)
+
+either-returns : (m n r : ℕ) → 0 < m → 0 < n → (r ≡ m) ⊎ (r ≡ n) → 0 < r
+either-returns m n r hm hn h = ⊎-elim (λ (w : r ≡ m). omega arith) (λ (w : r ≡ n). omega arith) h
+
+pub plan-reading-returns : (n lent : ℕ) (q : List ℕ) (r : ℕ) → readPlan n lent q ≡ refused r → 0 < r
+plan-reading-returns n lent q r e = either-returns 12 30 r (omega arith) (omega arith) (demand-1 .reading-a-plan n lent q r e)
+
+-- ---- demand 2
+
+pub record Demand2Returned : Type 0 where
+  -- 0 is returned and the cost c is left exactly if the bytes are those of a plan that is a solution and costs c
+  pub accepted-iff : (b q : List ℕ) (c before : ℕ) → areBytes b ≡ true → areBytes q ≡ true → status (readSheet b) ≡ 0
+      → ((status (validate b q) ≡ 0) × (placed (λ (c : ℕ). c) (validate b q) before ≡ c))
+      ↔ ((s : ℕ) × (ds : List ℕ) × (isSolution (decode b) s ds ≡ true) × (c ≡ roundCost (decode b) s ds) × (q ≡ planBytes (decode b .tasks) s ds c))
+  -- a plan written returns 0; its bytes read return 0, and leave its start, doors and cost
+  pub written-then-read : (n start : ℕ) (doors : List ℕ) (c : ℕ) (buffer : List ℕ) (start' : ℕ) (doors' : List ℕ) (c' : ℕ)
+      → 1 ≤ n → n ≤ maxPlanDoors → n ≤ length doors → n ≤ length doors' → start < 2 ^ 16 → ((i : ℕ) → i < n → getD doors i 0 < 2 ^ 16) → c < 2 ^ 64 → 32 + 2 * n ≤ length buffer
+      → (status (writePlan n start doors c buffer .answer) ≡ 0)
+      × (status (readPlan n (length doors') (take (32 + 2 * n) (writePlan n start doors c buffer .bytes))) ≡ 0)
+      × (placed (λ (x : PlanRead). x .start) (readPlan n (length doors') (take (32 + 2 * n) (writePlan n start doors c buffer .bytes))) start' ≡ start)
+      × ((i : ℕ) → i < n → getD (placed (λ (x : PlanRead). x .doors) (readPlan n (length doors') (take (32 + 2 * n) (writePlan n start doors c buffer .bytes))) doors') i 0 ≡ getD doors i 0)
+      × (placed (λ (x : PlanRead). x .cost) (readPlan n (length doors') (take (32 + 2 * n) (writePlan n start doors c buffer .bytes))) c' ≡ c)
+  -- bytes whose reading returns 0 are those that writing what it left yields
+  pub read-then-written : (n : ℕ) (q : List ℕ) (start : ℕ) (doors : List ℕ) (c : ℕ) (buffer : List ℕ) → areBytes q ≡ true → status (readPlan n (length doors) q) ≡ 0 → length buffer ≡ length q
+      → writePlan n (placed (λ (x : PlanRead). x .start) (readPlan n (length doors) q) start) (placed (λ (x : PlanRead). x .doors) (readPlan n (length doors) q) doors)
+      (placed (λ (x : PlanRead). x .cost) (readPlan n (length doors) q) c) buffer .bytes ≡ q
+
+pub demand-2-returned : Demand2Returned
+demand-2-returned = record {
+  accepted-iff = λ b q c before hb hq reads.
+      let r = returned-0 (readSheet b) (reading-returns b) reads in
+      let iff = demand-2 .accepted-iff b q c (r .0) hb hq (r .1) in (
+        (λ h. let a = returned-0 (validate b q) (judging-returns b q) (h .0) in iff .0 (a .1 ∙ ap accepted (sym (ap (λ (x : Answer ℕ). placed (λ (c : ℕ). c) x before) (a .1)) ∙ h .1))),
+        (λ h. rw (iff .1 h) (refl, refl)),
+      );
+  written-then-read = λ n start doors c buffer start' doors' c' one few there here hs hd hc room.
+      let w = demand-2 .written-then-read n start doors c buffer (length doors') one few there here hs hd hc room in
+      let a = demand-2 .rest-stays n start doors c buffer one few there room in
+      rw (a .0, w .1) (refl, refl, w .2, w .3, w .4);
+  read-then-written = λ n q start doors c buffer hq e same.
+      let x = returned-0 (readPlan n (length doors) q) (plan-reading-returns n (length doors) q) e in
+      rw (x .1) (demand-2 .read-then-written n (length doors) q (x .0) hq (x .1) buffer same);
+}

@@ -1,0 +1,43 @@
+-- A row of numbers in bytes: written into a buffer number by number, and compared with bytes number by number. Assumes nothing.
+use mathlib.Core.Path.{_≡_, sym, ap, _∙_}
+use mathlib.Core.Bool.{true}
+use mathlib.Core.List.{List, []}
+use Prim.Native.Nat.{ℕ, suc, _+_, _*_, _^_, _≤_, _<_}
+use native.Mathlib.Nat.{zero-add, mul-le-mul-left}
+use native.Mathlib.Omega.{arith}
+use lib.Dec.{eqb}
+use lib.ListN.{length, take, drop, take-append-drop}
+use lib.Pow.{areBytes}
+use lib.Seq.{length-take-le}
+use borrow.Author.Tests.{eqb-true, eq-eqb}
+use Rattle.model.specs.Folds.{allBelow, sameList}
+use Rattle.model.specs.Bytes.{numberAt, bytesOf, overwriteAt}
+use Rattle.model.proofs.Tests.{same-test, all-at, all-below, same-list, list-same}
+use Rattle.model.proofs.Folds.{flat-cong}
+use Rattle.model.proofs.Numbers.{length-bytesOf, number-front, row, length-row, read-row, row-on}
+use Rattle.model.proofs.Overwriting.{over-on}
+
+-- a number more of a row is written
+pub over-row : (k n i : ℕ) (f : ℕ → ℕ) (b : List ℕ) → i + k * suc n ≤ length b
+    → overwriteAt (i + k * n) (bytesOf k (f n)) (overwriteAt i (row k n f) b) ≡ overwriteAt i (row k (suc n) f) b
+over-row k n i f b h = rw (← length-row k n f) (over-on i (row k n f) (bytesOf k (f n)) b (rw (length-row, length-bytesOf) (omega arith)))
+
+-- a row of numbers that fit their bytes stands at the front where each number is read there
+pub same-row : (k n : ℕ) (f : ℕ → ℕ) (b : List ℕ) → areBytes b ≡ true → k * n ≤ length b → ((i : ℕ) → i < n → f i < 256 ^ k)
+    → sameList (take (k * n) b) (row k n f) ≡ allBelow n (λ i. eqb (numberAt k b (k * i)) (f i))
+same-row k n f b bytes l fits = same-test _ _
+    (λ e. all-below n _ (λ i m. eq-eqb _ _ (there i m (same-list _ _ e))))
+    (λ e. rw (here e) (list-same (take (k * n) b)))
+  where
+    there : (i : ℕ) → i < n → take (k * n) b ≡ row k n f → numberAt k b (k * i) ≡ f i
+    there i m e =
+        let long : length (take (k * n) b) ≡ k * n = length-take-le (k * n) b l in
+        ap (λ (x : List ℕ). numberAt k x (k * i)) (sym (take-append-drop (k * n) b))
+        ∙ number-front k (take (k * n) b) (drop (k * n) b) (k * i) (omega (arith, mul-le-mul-left k m))
+        ∙ rw (e, ← zero-add (k * i)) (read-row k n f [] i m (fits i m))
+
+    here : allBelow n (λ i. eqb (numberAt k b (k * i)) (f i)) ≡ true → row k n f ≡ take (k * n) b
+    here e =
+        flat-cong n _ (λ i. bytesOf k (numberAt k b (0 + k * i))) (λ i m. ap (bytesOf k) (rw (zero-add (k * i)) (sym (eqb-true _ _ (all-at n _ e i m)))))
+        ∙ row-on k n b 0 bytes (omega arith)
+        ∙ rw (zero-add (k * n))

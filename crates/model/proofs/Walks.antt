@@ -1,0 +1,101 @@
+-- A loop that walks a list: what a definition that goes by the list's head says of the list from place i on. Assumes nothing.
+use mathlib.Core.Path.{_≡_, refl, sym, ap, _∙_}
+use mathlib.Core.Bool.{Bool, true, false}
+use mathlib.Core.List.{List, [], _∷_, _++_, map, append-nil, map-append}
+use Prim.Native.Nat.{ℕ, zero, suc, _+_, _≤_, _<_}
+use native.Mathlib.Omega.{arith}
+use native.Mathlib.Numerals.{add-one}
+use lib.ListN.{length, getD, take, drop, set, drop-of-length-le, length-map}
+use lib.Seq.{drop-cons, take-suc, take-all, set-at, length-take-le, append-snoc}
+use borrow.Author.Tests.{eq-eqb, ne-eqb}
+use Rattle.model.specs.Folds.{allIn, countOf, indexOf}
+
+-- its element at i, then the list from i + 1 on
+pub from : (xs : List ℕ) (i : ℕ) → i < length xs → drop i xs ≡ getD xs i 0 ∷ drop (i + 1) xs
+from xs i l = rw (add-one, drop-cons xs i 0)
+
+-- ---- how often t stands in the list: `count` times before i
+
+pub record Counted (t : ℕ) (xs : List ℕ) (count i : ℕ) : Type 0 where
+  pub within : i ≤ length xs
+  pub most : count ≤ i
+  pub total : count + countOf t (drop i xs) ≡ countOf t xs
+
+module _ {t : ℕ} {xs : List ℕ} {count i : ℕ} (h : Counted t xs count i) where
+  pub count-more : i < length xs → getD xs i 0 ≡ t → Counted t xs (count + 1) (i + 1)
+  count-more l e = record {
+    within = omega arith;
+    most = omega arith;
+    total = omega (arith, rw (from xs i l, eq-eqb (getD xs i 0) t e) at (h .total));
+  }
+
+  pub count-same : i < length xs → (getD xs i 0 ≡ t → ⊥) → Counted t xs count (i + 1)
+  count-same l e = record {
+    within = omega arith;
+    most = omega arith;
+    total = omega (arith, rw (from xs i l, ne-eqb (getD xs i 0) t e) at (h .total));
+  }
+
+  pub count-all : length xs ≤ i → count ≡ countOf t xs
+  count-all l = omega (arith, rw (drop-of-length-le xs l) at (h .total))
+
+-- ---- where t first stands in the list: not before i
+
+pub record Missed (t : ℕ) (xs : List ℕ) (i : ℕ) : Type 0 where
+  pub within : i ≤ length xs
+  pub place : i + indexOf t (drop i xs) ≡ indexOf t xs
+
+module _ {t : ℕ} {xs : List ℕ} {i : ℕ} (h : Missed t xs i) where
+  pub index-next : i < length xs → (getD xs i 0 ≡ t → ⊥) → Missed t xs (i + 1)
+  index-next l e = record {
+    within = omega arith;
+    place = omega (arith, rw (from xs i l, ne-eqb (getD xs i 0) t e) at (h .place));
+  }
+
+  pub index-here : i < length xs → getD xs i 0 ≡ t → i ≡ indexOf t xs
+  index-here l e = omega (arith, rw (from xs i l, eq-eqb (getD xs i 0) t e) at (h .place))
+
+  pub index-none : length xs ≤ i → i ≡ indexOf t xs
+  index-none l = omega (arith, rw (drop-of-length-le xs l) at (h .place))
+
+-- ---- whether every element passes a test: each before i does
+
+pub record PassedTo (test : ℕ → Bool) (xs : List ℕ) (i : ℕ) : Type 0 where
+  pub within : i ≤ length xs
+  pub rest : allIn test (drop i xs) ≡ allIn test xs
+
+module _ {test : ℕ → Bool} {xs : List ℕ} {i : ℕ} (h : PassedTo test xs i) where
+  pub pass-next : i < length xs → test (getD xs i 0) ≡ true → PassedTo test xs (i + 1)
+  pass-next l e = record { within = omega arith; rest = rw (from xs i l, e) at (h .rest) }
+
+  pub pass-fails : i < length xs → test (getD xs i 0) ≡ false → allIn test xs ≡ false
+  pass-fails l e = sym (rw (from xs i l, e) at (h .rest))
+
+  pub pass-all : length xs ≤ i → allIn test xs ≡ true
+  pass-all l = sym (rw (drop-of-length-le xs l) at (h .rest))
+
+-- ---- f of each element, in its place: it stands before i
+
+pub record MappedTo (f : ℕ → ℕ) (xs ys : List ℕ) (i : ℕ) : Type 0 where
+  pub within : i ≤ length xs
+  pub made : ys ≡ map f (take i xs) ++ drop i xs
+
+module _ {f : ℕ → ℕ} {xs ys : List ℕ} {i : ℕ} (h : MappedTo f xs ys i) where
+  -- r is what the code writes at i
+  pub map-next : {r : ℕ} → i < length xs → r ≡ f (getD xs i 0) → MappedTo f xs (set ys i r) (i + 1)
+  map-next l e = record {
+    within = omega arith;
+    made =
+        let front : length (map f (take i xs)) ≡ i = length-map (take i xs) f ∙ length-take-le i xs (h .within) in
+        rw (h .made, e, from xs i l, set-at (map f (take i xs)) (getD xs i 0) (drop (i + 1) xs) (f (getD xs i 0)) i front)
+        (rw (add-one, take-suc xs i 0 l, map-append) (sym (append-snoc (map f (take i xs)) (f (getD xs i 0)) (drop (suc i) xs))));
+  }
+
+  pub map-all : length xs ≤ i → ys ≡ map f xs
+  map-all l = h .made ∙ rw (take-all i xs l, drop-of-length-le xs l) (append-nil (map f xs))
+
+-- f of the first n elements
+pub take-map : (f : ℕ → ℕ) (n : ℕ) (xs : List ℕ) → take n (map f xs) ≡ map f (take n xs)
+take-map f zero xs = refl
+take-map f (suc n) [] = refl
+take-map f (suc n) (x ∷ xs) = ap (λ (ys : List ℕ). f x ∷ ys) (take-map f n xs)
