@@ -2,7 +2,7 @@
 use mathlib.Core.Path.{sym, ap₂, _∙_}
 use Prim.Native.Nat.{ℕ, _+_, _*_}
 use native.Mathlib.Omega.{arith}
-use Rattle.number.proofs.Bytes.{number-beyond, number-half, number-four}
+use Rattle.number.proofs.Bytes.{number-beyond, number-join, number-short}
 use borrow.Author.Needs.{needs}
 use Rattle.number.proofs.read_u32.Statement.{statement}
 use Rattle.number.proofs.read_u32.Tie as tie
@@ -20,7 +20,7 @@ sub-if2 : tie.Need-sub-if2
 sub-if2 c = search needs
 
 returns-2 : tie.Need-returns-2
-returns-2 c = c .before .read-u16 .ensures ∙ sym (number-half _ _ (omega arith))
+returns-2 c = c .before .read-u16 .ensures ∙ sym (number-short 2 2 _ _ (omega arith))
 
 add-read-u16 : tie.Need-add-read-u16
 add-read-u16 c = search needs
@@ -40,7 +40,7 @@ add-result c = search needs
 returns-3 : tie.Need-returns-3
 returns-3 c =
     ap₂ (λ (x y : ℕ). x + y * 65536) (c .before .before .read-u16 .ensures) (c .read-u162 .ensures)
-    ∙ sym (number-four _ _)
+    ∙ sym (number-join 2 2 _ _)
 
 pub read-u32-spec : {M : Type 1} → statement M
 read-u32-spec =
