@@ -1,15 +1,19 @@
 -- The loop's sum is the end load plus the negative changes of the tasks below t, in 64 bits that it cannot leave. Assumes nothing.
+use mathlib.Core.Path.{sym, ap}
 use mathlib.Core.Logic.{⊎-elim}
 use Prim.Native.Nat.{_-_, _≤_}
 use native.Mathlib.Omega.{arith}
+use lib.IntN.{pos}
+use mir.Syntax.{w16, w64}
 use borrow.Author.Needs.{needs}
 use Rattle.model.specs.SheetLayout.{decode}
-use Rattle.sheet.proofs.Lightest.{SumBelow, no-task, all-tasks, widened-fits, next-fits, next-sum, same-sum}
+use Rattle.model.proofs.SignedSums.{no-sum, widened-fits, next-fits, next-sum, same-sum}
+use Rattle.sheet.proofs.Lightest.{LightestBelow, taken-away, not-taken, all-tasks}
 use Rattle.sheet.proofs.light.too_light.Statement.{statement}
 use Rattle.sheet.proofs.light.too_light.Tie as tie
 
 abbrev Inv-loop : tie.InvT-loop
-Inv-loop s tasks lightest₀ t₀ lightest t = (t ≤ tasks) × SumBelow (decode s) t lightest
+Inv-loop s tasks lightest₀ t₀ lightest t = (t ≤ tasks) × LightestBelow (decode s) t lightest
 
 abbrev μ-loop : tie.MeasureT-loop
 μ-loop s tasks lightest₀ t₀ lightest t = tasks - t
@@ -24,18 +28,19 @@ cast-lightest : tie.Need-cast-lightest Inv-loop μ-loop
 cast-lightest c = search needs
 
 loop-holds : tie.Need-loop-holds Inv-loop μ-loop
-loop-holds c = (omega arith, no-task _ _ (omega arith) (c .end-load .ensures))
+loop-holds c = (omega arith, no-sum _ (ap pos (sym (c .end-load .ensures))) (omega arith) (omega arith))
 
 change-requires : tie.Need-change-requires Inv-loop μ-loop
 change-requires c κs = search needs
 
 cast-lightest-2 : tie.Need-cast-lightest-2 Inv-loop μ-loop
-cast-lightest-2 c = widened-fits (c .before .change .result) (c .before .change .ok)
+cast-lightest-2 c = let r = c .before .change in widened-fits w16 (r .result) (r .ok) w64 (omega (arith, r .ok))
 
 add-lightest : tie.Need-add-lightest Inv-loop μ-loop
 add-lightest c =
     let r = c .before .change in
-    next-fits (c .before .before .before .loop .inv .1) (omega arith) (r .ensures) (r .ok) (c .if1 .taken)
+    let h = c .before .before .before .loop .inv .1 in
+    next-fits h (r .result) (r .ok) (taken-away h (r .ensures) (r .ok) (c .if1 .taken)) (omega arith)
 
 add-t : tie.Need-add-t Inv-loop μ-loop
 add-t c = search needs
@@ -49,8 +54,8 @@ loop-again c =
     let r = c .before .change in (
       omega arith,
       ⊎-elim
-          (λ w. rw (w .1) (next-sum h (omega arith) (r .ensures) (r .ok) (w .0 .taken)))
-          (λ w. rw (w .1) (same-sum h (omega arith) (r .ensures) (r .ok) (w .0 .left)))
+          (λ w. rw (w .1) (next-sum h (r .result) (r .ok) (taken-away h (r .ensures) (r .ok) (w .0 .taken)) (omega arith)))
+          (λ w. rw (w .1) (same-sum h (not-taken h (r .ensures) (r .ok) (w .0 .left))))
           (c .if1 .came),
     )
 
