@@ -1,0 +1,3 @@
+pub mod Loads
+pub mod Rules
+pub mod Routes
