@@ -38,7 +38,7 @@ fitting n lent h =
     let b = between-true 1 maxPlanDoors n (not-false _ (or-left (not (isBetween 1 maxPlanDoors n)) _ h)) in
     (b .0, b .1, ltb-false lent n (or-right (not (isBetween 1 maxPlanDoors n)) _ h))
 
-length-head : (n : ℕ) → length (planHead n) ≡ planStartAt
+pub length-head : (n : ℕ) → length (planHead n) ≡ planStartAt
 unfolding planHead lineBytes planStartAt lineAt
 length-head n = simp (length-append, length-bytesOf)
 

@@ -1,12 +1,12 @@
 -- A loop that walks a list: what a definition that goes by the list's head says of the list from place i on. Assumes nothing.
-use mathlib.Core.Path.{_≡_, refl, sym, ap, _∙_}
+use mathlib.Core.Path.{_≡_, refl, sym, ap}
 use mathlib.Core.Bool.{Bool, true, false}
-use mathlib.Core.List.{List, [], _∷_, _++_, map, append-nil, map-append}
+use mathlib.Core.List.{List, [], _∷_, map}
 use Prim.Native.Nat.{ℕ, zero, suc, _+_, _≤_, _<_}
 use native.Mathlib.Omega.{arith}
 use native.Mathlib.Numerals.{add-one}
-use lib.ListN.{length, getD, take, drop, set, drop-of-length-le, length-map}
-use lib.Seq.{drop-cons, take-suc, take-all, set-at, length-take-le, append-snoc}
+use lib.ListN.{length, getD, take, drop, drop-of-length-le}
+use lib.Seq.{drop-cons}
 use borrow.Author.Tests.{eq-eqb, ne-eqb}
 use Rattle.model.specs.Folds.{allIn, countOf, indexOf}
 
@@ -73,26 +73,6 @@ module _ {test : ℕ → Bool} {xs : List ℕ} {i : ℕ} (h : PassedTo test xs i
 
   pub pass-all : length xs ≤ i → allIn test xs ≡ true
   pass-all l = sym (rw (drop-of-length-le xs l) at (h .rest))
-
--- ---- f of each element, in its place: it stands before i
-
-pub record MappedTo (f : ℕ → ℕ) (xs ys : List ℕ) (i : ℕ) : Type 0 where
-  pub within : i ≤ length xs
-  pub made : ys ≡ map f (take i xs) ++ drop i xs
-
-module _ {f : ℕ → ℕ} {xs ys : List ℕ} {i : ℕ} (h : MappedTo f xs ys i) where
-  -- r is what the code writes at i
-  pub map-next : {r : ℕ} → i < length xs → r ≡ f (getD xs i 0) → MappedTo f xs (set ys i r) (i + 1)
-  map-next l e = record {
-    within = omega arith;
-    made =
-        let front : length (map f (take i xs)) ≡ i = length-map (take i xs) f ∙ length-take-le i xs (h .within) in
-        rw (h .made, e, from xs i l, set-at (map f (take i xs)) (getD xs i 0) (drop (i + 1) xs) (f (getD xs i 0)) i front)
-        (rw (add-one, take-suc xs i 0 l, map-append) (sym (append-snoc (map f (take i xs)) (f (getD xs i 0)) (drop (suc i) xs))));
-  }
-
-  pub map-all : length xs ≤ i → ys ≡ map f xs
-  map-all l = h .made ∙ rw (take-all i xs l, drop-of-length-le xs l) (append-nil (map f xs))
 
 -- f of the first n elements
 pub take-map : (f : ℕ → ℕ) (n : ℕ) (xs : List ℕ) → take n (map f xs) ≡ map f (take n xs)
