@@ -61,11 +61,11 @@ pub fn to_i16(n: u16) -> i16
 pub fn write_u16(b: &mut [u8], i: usize, v: u16)
     ensures { λ _. ⌜ now (b .exit) ≡ overwriteAt i (bytesOf 2 v) (now (b .entry)) ⌝ }
 {
-    let n = b.len();
-    if n <= i {
+    let room = b.len();
+    if room <= i {
         return;
     }
-    if n - i < 2 {
+    if room - i < 2 {
         return;
     }
     b[i] = (v % 256) as u8;
@@ -76,11 +76,11 @@ pub fn write_u16(b: &mut [u8], i: usize, v: u16)
 pub fn write_u64(b: &mut [u8], i: usize, v: u64)
     ensures { λ _. ⌜ now (b .exit) ≡ overwriteAt i (bytesOf 8 v) (now (b .entry)) ⌝ }
 {
-    let n = b.len();
-    if n <= i {
+    let room = b.len();
+    if room <= i {
         return;
     }
-    if n - i < 8 {
+    if room - i < 8 {
         return;
     }
     write_u16(b, i, (v % 65536) as u16);
