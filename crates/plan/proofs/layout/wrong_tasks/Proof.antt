@@ -1,0 +1,27 @@
+-- The first two comparisons say that n is outside 1 to 12. Assumes nothing.
+use mathlib.Core.Path.{_≡_, refl, sym, _∙_}
+use mathlib.Core.Logic.{⊎-elim}
+use mathlib.Core.Bool.{not}
+use borrow.Author.Tests.{lt-ltb, le-ltb}
+use Rattle.model.specs.Folds.{isBetween}
+use Rattle.model.specs.PlanLayout.{maxPlanDoors, wrongTasks}
+use Rattle.model.proofs.Tests.{or-last, outside}
+use Rattle.plan.proofs.layout.wrong_tasks.Statement.{statement}
+use Rattle.plan.proofs.layout.wrong_tasks.Tie as tie
+
+outside-is : (c : tie.Joined1) → c .if1 .if2 ≡ not (isBetween 1 maxPlanDoors (c .before .args .n))
+outside-is c = ⊎-elim
+    (λ w. w .1 ∙ rw (← outside 1 maxPlanDoors (c .before .args .n), lt-ltb (c .before .args .n) 1 (w .0 .taken)))
+    (λ w. w .1 ∙ rw (← outside 1 maxPlanDoors (c .before .args .n), le-ltb (c .before .args .n) 1 (w .0 .left)))
+    (c .if1 .came)
+
+returns : tie.Need-returns
+unfolding wrongTasks
+returns c = rw (sym (outside-is (c .before)) ∙ c .if2 .taken) (c .if2 .taken)
+
+returns-2 : tie.Need-returns-2
+unfolding wrongTasks
+returns-2 c = or-last _ _ _ (sym (outside-is (c .before)) ∙ c .if2 .left) refl
+
+pub wrong-tasks-spec : {M : Type 1} → statement M
+wrong-tasks-spec = tie.close (tie.spec returns returns-2)
