@@ -1,0 +1,80 @@
+// The judge of document 01: whether bytes are a plan for a sheet, a solution with the cost that they state.
+ghost use mathlib.Core.Path.{_≡_};
+ghost use Rattle.model.specs.Answer.{status};
+ghost use Rattle.model.specs.SheetLayout.{decode};
+ghost use Rattle.model.specs.Faults.{readSheet};
+ghost use Rattle.model.specs.Validating.{validate};
+ghost use Rattle.validate.specs.Answers.{numberOf, answerOf};
+use sheet::Reading;
+
+mod checks;
+
+// Why a plan is not accepted: the sheet's own faults first, then 30 to 34 in the order in which they are tested.
+pub enum Refusal {
+    Sheet(sheet::Fault),
+    IllFormed,
+    NotInSheet,
+    DoneTwice,
+    ReceiverFirst,
+    WrongCost,
+}
+
+// What validating answers: the cost, or why not.
+pub enum Judgement {
+    Accepted(u64),
+    Refused(Refusal),
+}
+
+// Document 01's number of a refusal.
+pub fn number_of(r: Refusal) -> u32
+    ensures { λ n. ⌜ n ≡ numberOf r ⌝ }
+{
+    match r {
+        Refusal::Sheet(fault) => sheet::number_of(fault),
+        Refusal::IllFormed => 30,
+        Refusal::NotInSheet => 31,
+        Refusal::DoneTwice => 32,
+        Refusal::ReceiverFirst => 33,
+        Refusal::WrongCost => 34,
+    }
+}
+
+// Validates the plan q for the sheet s. The first refusal that applies is the answer.
+pub fn validate(s: &[u8], q: &[u8]) -> Judgement
+    ensures { λ r. ⌜ answerOf r ≡ validate (now (s .entry)) (now (q .entry)) ⌝ }
+{
+    let reading = sheet::read(s);
+    match reading {
+        Reading::Read(counts) => judge(s, q, counts.tasks),
+        Reading::Refused(fault) => Judgement::Refused(Refusal::Sheet(fault)),
+    }
+}
+
+// The same for a sheet of n tasks that reads.
+fn judge(s: &[u8], q: &[u8], n: u16) -> Judgement
+    requires { ⌜ (status (readSheet (now s)) ≡ 0) × (n ≡ decode (now s) .tasks) ⌝ }
+    ensures { λ r. ⌜ answerOf r ≡ validate (now (s .entry)) (now (q .entry)) ⌝ }
+{
+    if plan::ill_formed(n, q) {
+        return Judgement::Refused(Refusal::IllFormed);
+    }
+    let start = plan::start_in(q);
+    let x = plan::in_hand(n, q);
+    let count = x.count;
+    let doors = x.doors;
+    let tasks = checks::tasks_of(s, doors);
+    if checks::not_in_sheet(s, start, &doors[..count]) {
+        return Judgement::Refused(Refusal::NotInSheet);
+    }
+    if checks::done_twice(s, &tasks[..count]) {
+        return Judgement::Refused(Refusal::DoneTwice);
+    }
+    if checks::breaks_pair(s, &tasks[..count]) {
+        return Judgement::Refused(Refusal::ReceiverFirst);
+    }
+    let cost = cost::route(s, field::start_point(s, start), &doors[..count]);
+    if x.cost != cost {
+        return Judgement::Refused(Refusal::WrongCost);
+    }
+    Judgement::Accepted(cost)
+}
