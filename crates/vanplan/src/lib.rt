@@ -1,8 +1,17 @@
 // The C interface, which include/vanplan.h documents. Each call returns 0, or the refusal's number with nothing written.
 ghost use mathlib.Core.Path.{_≡_};
+ghost use Prim.Native.Nat.{ℕ};
+ghost use lib.ListN.{length};
 ghost use Rattle.model.specs.Answer.{status, placed};
 ghost use Rattle.model.specs.Faults.{Counts, readSheet};
+ghost use Rattle.model.specs.PlanLayout.{writePlan, PlanRead, readPlan};
+ghost use Rattle.model.specs.Validating.{validate};
+use plan::Writing;
 use sheet::Reading;
+use validate::Judgement;
+
+// What a call returns that is not refused.
+const OK: u32 = 0;
 
 // Reads a sheet: its numbers of tasks and points.
 #[no_mangle]
@@ -16,8 +25,69 @@ pub extern "C" fn vanplan_read(sheet: &[u8], tasks: &mut u64, points: &mut u64) 
         Reading::Read(counts) => {
             *tasks = counts.tasks as u64;
             *points = counts.points as u64;
-            0
+            OK
         }
         Reading::Refused(fault) => sheet::number_of(fault),
+    }
+}
+
+// Writes a plan of n doors, the first n of those lent, to the front of the buffer.
+#[no_mangle]
+pub extern "C" fn vanplan_write_plan(
+    n: usize,
+    start: u16,
+    doors: &[u16],
+    cost: u64,
+    buf: &mut [u8],
+    written: &mut usize,
+) -> u32
+    ensures returned { λ r. ⌜ r ≡ status (writePlan n start (now (doors .entry)) cost (now (buf .entry)) .answer) ⌝ }
+    ensures buffer { λ r. ⌜ now (buf .exit) ≡ writePlan n start (now (doors .entry)) cost (now (buf .entry)) .bytes ⌝ }
+    ensures written { λ r. ⌜ now (written .exit) ≡ placed (λ (l : ℕ). l) (writePlan n start (now (doors .entry)) cost (now (buf .entry)) .answer) (now (written .entry)) ⌝ }
+{
+    let writing = plan::write(n, start, doors, cost, buf);
+    match writing {
+        Writing::Written(length) => {
+            *written = length;
+            OK
+        }
+        Writing::Refused(fault) => plan::number_of(fault),
+    }
+}
+
+// Reads a plan of n doors: its start, its doors and its cost. Doors lent from n on are set to 0.
+#[no_mangle]
+pub extern "C" fn vanplan_read_plan(
+    n: usize,
+    bytes: &[u8],
+    start: &mut u16,
+    doors: &mut [u16],
+    cost: &mut u64,
+) -> u32
+    ensures returned { λ r. ⌜ r ≡ status (readPlan n (length (now (doors .entry))) (now (bytes .entry))) ⌝ }
+    ensures start { λ r. ⌜ now (start .exit) ≡ placed (λ (x : PlanRead). x .start) (readPlan n (length (now (doors .entry))) (now (bytes .entry))) (now (start .entry)) ⌝ }
+    ensures doors { λ r. ⌜ now (doors .exit) ≡ placed (λ (x : PlanRead). x .doors) (readPlan n (length (now (doors .entry))) (now (bytes .entry))) (now (doors .entry)) ⌝ }
+    ensures cost { λ r. ⌜ now (cost .exit) ≡ placed (λ (x : PlanRead). x .cost) (readPlan n (length (now (doors .entry))) (now (bytes .entry))) (now (cost .entry)) ⌝ }
+{
+    let reading = plan::read(n, bytes, start, doors, cost);
+    match reading {
+        plan::Reading::Read => OK,
+        plan::Reading::Refused(fault) => plan::number_of(fault),
+    }
+}
+
+// Validates a plan for a sheet: its cost.
+#[no_mangle]
+pub extern "C" fn vanplan_validate(sheet: &[u8], plan: &[u8], cost: &mut u64) -> u32
+    ensures returned { λ r. ⌜ r ≡ status (validate (now (sheet .entry)) (now (plan .entry))) ⌝ }
+    ensures cost { λ r. ⌜ now (cost .exit) ≡ placed (λ (c : ℕ). c) (validate (now (sheet .entry)) (now (plan .entry))) (now (cost .entry)) ⌝ }
+{
+    let judgement = validate::validate(sheet, plan);
+    match judgement {
+        Judgement::Accepted(round) => {
+            *cost = round;
+            OK
+        }
+        Judgement::Refused(refusal) => validate::number_of(refusal),
     }
 }
