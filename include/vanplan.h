@@ -21,8 +21,9 @@
 extern "C" {
 #endif
 
-/* The refusals of a task sheet, in the order in which they are tested. */
+/* The refusals, in the order in which they are tested. N is the number of tasks and P that of points. */
 enum vanplan_refusal {
+    /* of a task sheet; 12 also where a plan is to have no task or more than 12, or more tasks than doors */
     VANPLAN_TOO_SHORT = 10,     /* shorter than 46 bytes */
     VANPLAN_WRONG_KIND = 11,    /* the kind is not 1 */
     VANPLAN_WRONG_ENTRIES = 12, /* a body has too few or too many entries, or not P times P distances */
@@ -30,12 +31,53 @@ enum vanplan_refusal {
     VANPLAN_OUT_OF_RANGE = 14,  /* a task, point, door or least count is out of range, or a watched bit at N or above is set */
     VANPLAN_NO_DOOR = 15,       /* some task has no door */
     VANPLAN_TOO_LIGHT = 16,     /* the end load plus all negative load changes is below zero */
-    VANPLAN_NO_ORDER = 17       /* no order of the tasks keeps every pair */
+    VANPLAN_NO_ORDER = 17,      /* no order of the tasks keeps every pair */
+
+    /* of the room for a plan */
+    VANPLAN_SHORT_BUFFER = 21, /* the buffer is shorter than 32 + 2 N bytes */
+
+    /* of a plan */
+    VANPLAN_ILL_FORMED = 30,     /* the length, or a byte before 22, is not as laid out for N tasks */
+    VANPLAN_NOT_IN_SHEET = 31,   /* the start or a door is not in the sheet */
+    VANPLAN_DONE_TWICE = 32,     /* a task is done twice */
+    VANPLAN_RECEIVER_FIRST = 33, /* a receiver is done before its sender */
+    VANPLAN_WRONG_COST = 34      /* the stated cost is not the cost */
 };
 
 /* Reads a task sheet of len bytes, and refuses it with 10 to 17.
  * 0: *tasks is the number of its tasks N, 1 to 12, and *points the number of its points P, 1 to 64. */
 uint32_t vanplan_read(const uint8_t *sheet, size_t len, uint64_t *tasks, uint64_t *points);
+
+/* A plan is a start, a door for each of n tasks in the order in which they are done, and a cost. It has 32 + 2 n bytes:
+ *
+ *     byte      holds                                   bytes each
+ *     0         2, 0: the kind of a plan, and zero      2
+ *     4         1, 22, 1: body 1 is at 22, 1 entry      2
+ *     10        2, 24, n: body 2 is at 24, n entries    2
+ *     16        3, 24 + 2 n, 1: body 3, 1 entry         2
+ *     22        the start's number                      2
+ *     24        the n doors' numbers                    2
+ *     24 + 2 n  the cost                                8
+ *
+ * All numbers are unsigned and little-endian. */
+
+/* Writes the plan of n tasks with this start, the first n of the ndoors doors and this cost, each of any value, to the
+ * first 32 + 2 n of the len bytes of buf. Refused: 12 if n is not 1 to 12 or ndoors is below n, then 21.
+ * 0: *written is 32 + 2 n. The bytes of buf from there on are as they were. */
+uint32_t vanplan_write_plan(size_t n, uint16_t start, const uint16_t *doors, size_t ndoors, uint64_t cost,
+                            uint8_t *buf, size_t len, size_t *written);
+
+/* Reads len bytes as a plan of n tasks, whatever its start, doors and cost are. Refused: 12 if n is not 1 to 12 or
+ * ndoors is below n, then 30.
+ * 0: *start is its start, the first n of the ndoors doors are its doors and the others 0, and *cost is its cost. */
+uint32_t vanplan_read_plan(size_t n, const uint8_t *bytes, size_t len, uint16_t *start, uint16_t *doors, size_t ndoors,
+                           uint64_t *cost);
+
+/* Validates a plan of plan_len bytes for a task sheet of len bytes. Refused: 10 to 17 for the sheet, as vanplan_read
+ * does, then 30 to 34 for the plan.
+ * 0: the plan does every task once and keeps every pair, and *cost is its cost, which is the stated one. It may be
+ * dearer than need be. */
+uint32_t vanplan_validate(const uint8_t *sheet, size_t len, const uint8_t *plan, size_t plan_len, uint64_t *cost);
 
 #ifdef __cplusplus
 }

@@ -1,7 +1,8 @@
 //! Safe bindings over the C interface of vanplan.
 //!
 //! vanplan plans delivery rounds and validates plans made by others. Each call of the C interface has one safe function
-//! here, in a file of the same name. What can be refused, and with which number, is in [`Refusal`].
+//! here, of the same name, and one with `_into` behind the name that is lent what the C call is lent. What can be refused,
+//! and with which number, is in [`Refusal`].
 //!
 //! ```
 //! use vanplan::{read, Refusal};
@@ -14,8 +15,12 @@
 #![deny(unsafe_op_in_unsafe_fn)]
 
 mod ffi;
+mod plan;
 mod read;
 mod refusal;
+mod validate;
 
+pub use plan::{read_plan, read_plan_into, write_plan, write_plan_into, Stated};
 pub use read::{read, read_into, Counts};
 pub use refusal::{Refusal, ACCEPTED};
+pub use validate::{validate, validate_into};

@@ -18,7 +18,8 @@ impl Refusal {
     pub const TOO_SHORT: Refusal = Refusal(10);
     /// 11: kind not 1.
     pub const WRONG_KIND: Refusal = Refusal(11);
-    /// 12: a number of entries outside the table of bodies.
+    /// 12: a number of entries outside the table of bodies; for writing and reading a plan, N outside 1 to 12, or fewer
+    /// doors than N.
     pub const WRONG_ENTRIES: Refusal = Refusal(12);
     /// 13: a body number or offset wrong, or the sheet's length not the end of body 7.
     pub const WRONG_PLACES: Refusal = Refusal(13);
@@ -30,6 +31,18 @@ impl Refusal {
     pub const TOO_LIGHT: Refusal = Refusal(16);
     /// 17: no order of the tasks keeps every pair.
     pub const NO_ORDER: Refusal = Refusal(17);
+    /// 21: plan buffer shorter than 32 + 2N.
+    pub const SHORT_BUFFER: Refusal = Refusal(21);
+    /// 30: the plan's length or any byte before 22 not as laid out for this N.
+    pub const ILL_FORMED: Refusal = Refusal(30);
+    /// 31: a start or door number not in the sheet.
+    pub const NOT_IN_SHEET: Refusal = Refusal(31);
+    /// 32: a task done twice.
+    pub const DONE_TWICE: Refusal = Refusal(32);
+    /// 33: a receiver before its sender.
+    pub const RECEIVER_FIRST: Refusal = Refusal(33);
+    /// 34: the cost stated is not the cost.
+    pub const WRONG_COST: Refusal = Refusal(34);
 
     /// Document 01's words for the number; nothing for a number that no call of this package answers with.
     pub fn meaning(self) -> Option<&'static str> {
@@ -46,6 +59,14 @@ impl Refusal {
             Refusal::NO_DOOR => "some task has no door",
             Refusal::TOO_LIGHT => "E plus all negative w is below zero",
             Refusal::NO_ORDER => "no order of the tasks keeps every pair",
+            Refusal::SHORT_BUFFER => "plan buffer shorter than 32 + 2N",
+            Refusal::ILL_FORMED => {
+                "the plan's length or any byte before 22 not as laid out for this N"
+            }
+            Refusal::NOT_IN_SHEET => "a start or door number not in the sheet",
+            Refusal::DONE_TWICE => "a task done twice",
+            Refusal::RECEIVER_FIRST => "a receiver before its sender",
+            Refusal::WRONG_COST => "the cost stated is not the cost",
             _ => return None,
         })
     }

@@ -1,6 +1,7 @@
-//! The comparison of the product with the plain reading, and tallies of the numbers that were met.
+//! Reading a sheet: the comparison of the product with the plain reading, and tallies of the numbers that were met.
 
-use super::reading::{faults, reading, NUMBERS};
+use super::reading::{faults, reading};
+use super::tally::Times;
 use std::fmt::Arguments;
 use vanplan::{read, read_into, Counts, Refusal, ACCEPTED};
 
@@ -33,70 +34,57 @@ pub fn expect(number: u32, sheet: &[u8], case: Arguments) {
     assert_eq!(check(sheet, case), number, "{case}: {}", hex(sheet));
 }
 
-/// The beginning of a sheet as hexadecimal, and its length.
-fn hex(sheet: &[u8]) -> String {
+/// The beginning of bytes as hexadecimal, and their number.
+pub fn hex(bytes: &[u8]) -> String {
     const SHOWN: usize = 400;
-    let digits: String = sheet
+    let digits: String = bytes
         .iter()
         .take(SHOWN)
         .map(|byte| format!("{byte:02x}"))
         .collect();
-    let more = if sheet.len() > SHOWN { "..." } else { "" };
-    format!("{} bytes {digits}{more}", sheet.len())
+    let more = if bytes.len() > SHOWN { "..." } else { "" };
+    format!("{} bytes {digits}{more}", bytes.len())
 }
 
 /// How often each number was answered, 0 for sheets that read; and how often it was the only one to apply, or the
 /// lowest of several.
 #[derive(Debug, Default)]
 pub struct Tally {
-    met: [usize; 18],
-    alone: [usize; 18],
-    with_higher: [usize; 18],
+    met: Times,
+    alone: Times,
+    with_higher: Times,
 }
 
 impl Tally {
     pub fn check(&mut self, sheet: &[u8], case: Arguments) -> u32 {
         let number = check(sheet, case);
-        self.met[number as usize] += 1;
+        self.met.add(number);
         number
     }
 
     /// Like `check`, and tallies also whether the number came alone.
     pub fn check_company(&mut self, sheet: &[u8], case: Arguments) {
-        let number = self.check(sheet, case) as usize;
+        let number = self.check(sheet, case);
         match faults(sheet).len() {
             0 => {}
-            1 => self.alone[number] += 1,
-            _ => self.with_higher[number] += 1,
+            1 => self.alone.add(number),
+            _ => self.with_higher.add(number),
         }
     }
 
     /// Each of these numbers was answered so often or more, and no other number was answered at all.
     pub fn assert_met(&self, numbers: &[u32], least: usize) {
-        assert_tallied("answered", &self.met, numbers, least);
+        self.met.assert_each("answered", numbers, least);
     }
 
     /// Each of these numbers came alone so often or more, and no other number came alone.
     pub fn assert_alone(&self, numbers: &[u32], least: usize) {
-        assert_tallied("alone", &self.alone, numbers, least);
+        self.alone.assert_each("alone", numbers, least);
     }
 
     /// Each of these numbers came with a higher one so often or more, and no other number did.
     pub fn assert_with_higher(&self, numbers: &[u32], least: usize) {
-        assert_tallied("with a higher number", &self.with_higher, numbers, least);
-    }
-}
-
-fn assert_tallied(how: &str, tally: &[usize; 18], numbers: &[u32], least: usize) {
-    for number in std::iter::once(ACCEPTED).chain(NUMBERS) {
-        let times = tally[number as usize];
-        if numbers.contains(&number) {
-            assert!(
-                times >= least,
-                "{number} {how}: {times} times, fewer than {least}: {tally:?}"
-            );
-        } else {
-            assert_eq!(times, 0, "{number} {how}, but cannot be: {tally:?}");
-        }
+        self.with_higher
+            .assert_each("with a higher number", numbers, least);
     }
 }

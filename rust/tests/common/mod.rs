@@ -1,15 +1,21 @@
-//! What the tests share: sheets made in Rust, a reading of them written from document 01 alone, and the comparison.
+//! What the tests share: sheets and plans made in Rust, a reading and a judging of them written from document 01 alone,
+//! and the comparison of readings.
 
-// Every call has its own test program, and none of them uses all of this.
+// Every test program covers its own calls, and none of them uses all of this.
 #![allow(dead_code)]
 
 pub mod check;
 pub mod corrupt;
 pub mod examples;
 pub mod faulty;
+pub mod interface;
+pub mod judging;
 pub mod layout;
+pub mod lent;
 pub mod orders;
+pub mod plan;
 pub mod reading;
 pub mod rng;
 pub mod sheet;
+pub mod tally;
 pub mod valid;

@@ -1,11 +1,9 @@
 //! Sheets cut short at every length, and sheets with bytes behind their end.
 
-use std::alloc::{alloc_zeroed, dealloc, Layout};
-use std::slice;
-
 use crate::common::check::{expect, Tally};
 use crate::common::examples::{plain, sheet_a, FEWEST, MOST};
 use crate::common::layout::HEAD;
+use crate::common::lent::lend_long;
 use crate::common::rng::Rng;
 use crate::common::valid::{valid, ANY, SMALL};
 
@@ -84,21 +82,11 @@ fn more_than_65535_bytes() {
 #[cfg(target_pointer_width = "64")]
 fn a_length_that_is_right_in_its_low_32_bits() {
     let sheet = sheet_a().encode();
-    let layout = Layout::array::<u8>((1 << 32) + sheet.len()).expect("a size for an array");
-    // Memory that is not touched costs nothing, so this needs the addresses and not 4 GiB.
-    // SAFETY: the size is not 0.
-    let memory = unsafe { alloc_zeroed(layout) };
-    if memory.is_null() {
-        eprintln!("not tried: this machine gives no 4 GiB of addresses");
-        return;
-    }
-    // SAFETY: so many bytes were allocated there and set to 0, and nothing else refers to them.
-    let long = unsafe { slice::from_raw_parts_mut(memory, layout.size()) };
-    long[..sheet.len()].copy_from_slice(&sheet);
-    expect(13, long, format_args!("sheet A and 2^32 zero bytes"));
-    expect(0, &long[..sheet.len()], format_args!("sheet A before them"));
-    // SAFETY: it was allocated by this layout, and the slice is not used any more.
-    unsafe { dealloc(memory, layout) };
+    lend_long((1 << 32) + sheet.len(), |long: &mut [u8]| {
+        long[..sheet.len()].copy_from_slice(&sheet);
+        expect(13, long, format_args!("sheet A and 2^32 zero bytes"));
+        expect(0, &long[..sheet.len()], format_args!("sheet A before them"));
+    });
 }
 
 #[test]

@@ -14,6 +14,5 @@ mod load;
 mod pairs;
 mod random;
 mod ranges;
-mod refusals;
 mod sheet_a;
 mod support;

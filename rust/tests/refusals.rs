@@ -1,54 +1,45 @@
 //! A refusal says its number and document 01's words for it, and its name is the same in Rust and in C.
 
-use crate::common::reading::NUMBERS;
 use vanplan::{read, Refusal};
 
-/// The table of document 01: number, name, and words, up to where the document's text goes on.
-const TABLE: [(u32, Refusal, &str, &str); 8] = [
-    (
-        10,
-        Refusal::TOO_SHORT,
-        "TOO_SHORT",
-        "sheet shorter than 46 bytes",
-    ),
-    (11, Refusal::WRONG_KIND, "WRONG_KIND", "kind not 1"),
-    (
-        12,
-        Refusal::WRONG_ENTRIES,
-        "WRONG_ENTRIES",
-        "a number of entries outside the table",
-    ),
-    (
-        13,
-        Refusal::WRONG_PLACES,
-        "WRONG_PLACES",
-        "a body number or offset wrong",
-    ),
-    (
+/// A row of the table of document 01: number, name, and words, up to where the document's text goes on.
+macro_rules! row {
+    ($number:literal, $name:ident, $words:literal) => {
+        ($number, Refusal::$name, stringify!($name), $words)
+    };
+}
+
+/// The rows that the calls of this package can answer with.
+const TABLE: [(u32, Refusal, &str, &str); 14] = [
+    row!(10, TOO_SHORT, "sheet shorter than 46 bytes"),
+    row!(11, WRONG_KIND, "kind not 1"),
+    row!(12, WRONG_ENTRIES, "a number of entries outside the table"),
+    row!(13, WRONG_PLACES, "a body number or offset wrong"),
+    row!(
         14,
-        Refusal::OUT_OF_RANGE,
-        "OUT_OF_RANGE",
-        "a task, point, door or least count out of range",
+        OUT_OF_RANGE,
+        "a task, point, door or least count out of range"
     ),
-    (15, Refusal::NO_DOOR, "NO_DOOR", "some task has no door"),
-    (
-        16,
-        Refusal::TOO_LIGHT,
-        "TOO_LIGHT",
-        "E plus all negative w is below zero",
+    row!(15, NO_DOOR, "some task has no door"),
+    row!(16, TOO_LIGHT, "E plus all negative w is below zero"),
+    row!(17, NO_ORDER, "no order of the tasks keeps every pair"),
+    row!(21, SHORT_BUFFER, "plan buffer shorter than 32 + 2N"),
+    row!(
+        30,
+        ILL_FORMED,
+        "the plan's length or any byte before 22 not as laid out"
     ),
-    (
-        17,
-        Refusal::NO_ORDER,
-        "NO_ORDER",
-        "no order of the tasks keeps every pair",
-    ),
+    row!(31, NOT_IN_SHEET, "a start or door number not in the sheet"),
+    row!(32, DONE_TWICE, "a task done twice"),
+    row!(33, RECEIVER_FIRST, "a receiver before its sender"),
+    row!(34, WRONG_COST, "the cost stated is not the cost"),
 ];
 
 #[test]
 fn every_number_has_its_name_and_words() {
+    let of_a_plan = [21].into_iter().chain(30..=34);
     assert!(
-        NUMBERS.eq(TABLE.iter().map(|row| row.0)),
+        (10..=17).chain(of_a_plan).eq(TABLE.iter().map(|row| row.0)),
         "a number is left out"
     );
     for (number, named, _, words) in TABLE {
@@ -63,7 +54,7 @@ fn every_number_has_its_name_and_words() {
 
 #[test]
 fn the_header_has_the_same_names() {
-    let header = include_str!("../../../include/vanplan.h");
+    let header = include_str!("../../include/vanplan.h");
     let named: Vec<(&str, u32)> = header
         .lines()
         .filter_map(|line| line.trim().strip_prefix("VANPLAN_")?.split_once(" = "))
