@@ -17,15 +17,15 @@ use Rattle.model.specs.Sheet.{Sheet}
 use Rattle.model.specs.Orders.{isOrder, isAdmissible, isOrderWithin}
 use Rattle.model.specs.Cost.{load, ruleCharge, charges, stepCost, cost}
 use Rattle.model.specs.Plans.{inSheet, isSolution, roundCost, isCompletion, completions, costToGo}
-use Rattle.model.specs.SheetLayout.{maxTasks, maxRules, tasksBody, rulesBody, kind1, decodeBy, decode}
+use Rattle.model.specs.SheetLayout.{maxTasks, maxRules, tasksBody, rulesBody, decodeBy, decode}
 use Rattle.model.specs.PlanLayout.{maxPlanDoors}
 use Rattle.model.proofs.Tests.{tested, and-left, and-right}
 use Rattle.model.proofs.Folds.{sum-cong, sum-le, sum-mono, sum-add}
 use Rattle.model.proofs.Masks.{size-le}
 use Rattle.model.proofs.Lists.{All, all-kept}
 use Rattle.model.proofs.Counting.{order-length, order-once}
-use Rattle.model.proofs.Limits.{CountsWithin, counts-within, entries-within}
-use Rattle.model.proofs.Reading.{Reads}
+use Rattle.model.proofs.Limits.{CountsWithin}
+use Rattle.model.proofs.Reading.{Reads, counts-read}
 use Rattle.model.proofs.Loads.{load-magnitude}
 use Rattle.model.proofs.Widths.{Widths, entries-lt, widths}
 
@@ -195,8 +195,8 @@ pub kind1-sums : sumLimit kind1Limits < 2 ^ 40
 unfolding sumLimit kind1Limits fieldLimits
 kind1-sums = lit< tt
 
--- and by the widths alone no sum needs more than 53
-pub width-sums : maxPlanDoors * stepLimit widthLimits + widthLimits .endCost < 2 ^ 53
+-- and by the widths alone none needs more than the code's 64
+pub width-sums : maxPlanDoors * stepLimit widthLimits + widthLimits .endCost < 2 ^ 64
 unfolding stepLimit widthLimits fieldLimits
 width-sums = lit< tt
 
@@ -226,7 +226,7 @@ fields-within b h tasks rules n r l =
 pub kind1-within : (b : List ℕ) → areBytes b ≡ true → Reads b → WithinLimits kind1Limits (decode b)
 unfolding kind1Limits
 kind1-within b h r =
-    let n : CountsWithin (decode b) = counts-within b (entries-within kind1 b (r .passed-tests .counts)) in
+    let n : CountsWithin (decode b) = counts-read b r in
     fields-within b h maxTasks maxRules (n .tasks) (n .rules) (lit< tt)
 
 -- any sheet is within those of the widths
@@ -245,10 +245,10 @@ module _ (b : List ℕ) (h : areBytes b ≡ true) (r : Reads b) where
   pub to-go-small : (K p : ℕ) → costToGo (decode b) K p < 2 ^ 40
   to-go-small K p = lt-of-le-of-lt (to-go-bound kind1Limits (decode b) (kind1-within b h r) K p) kind1-sums
 
--- of any bytes, the cost of every step, and of every route through no more doors than a plan has, is below 2 ^ 53
+-- of any bytes, the cost of every step, and of every route through no more doors than a plan has, is below 2 ^ 64
 module _ (b : List ℕ) (h : areBytes b ≡ true) where
-  pub route-small : (p : ℕ) (ds : List ℕ) → length ds ≤ maxPlanDoors → cost (decode b) p ds < 2 ^ 53
+  pub route-small : (p : ℕ) (ds : List ℕ) → length ds ≤ maxPlanDoors → cost (decode b) p ds < 2 ^ 64
   route-small p ds l = omega (arith, route-bound widthLimits (decode b) (within-widths b h) p ds, mul-le-mul-right (stepLimit widthLimits) l, width-sums)
 
-  pub step-small : (K p d : ℕ) → stepCost (decode b) K p d < 2 ^ 53
+  pub step-small : (K p d : ℕ) → stepCost (decode b) K p d < 2 ^ 64
   step-small K p d = omega (arith, step-bound widthLimits (decode b) (within-widths b h) K p d, width-sums)

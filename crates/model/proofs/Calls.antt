@@ -2,10 +2,10 @@
 use mathlib.Core.Path.{_≡_, refl, sym, ap, _∙_}
 use mathlib.Core.Logic.{_⊎_, ⊎-elim, _↔_}
 use mathlib.Core.Bool.{true}
-use mathlib.Core.List.{List}
+use mathlib.Core.List.{List, []}
 use Prim.Native.Nat.{ℕ, _+_, _*_, _^_, _≤_, _<_}
 use native.Mathlib.Omega.{arith}
-use lib.ListN.{length, getD, take}
+use lib.ListN.{length, getD, take, drop}
 use lib.Pow.{areBytes}
 use Rattle.model.specs.Plans.{isSolution, roundCost}
 use Rattle.model.specs.Answer.{Answer, refused, accepted, status, placed}
@@ -22,21 +22,55 @@ pub returned-0 : {A : Type 0} (a : Answer A) → ((r : ℕ) → a ≡ refused r 
 returned-0 (refused r) h e = absurd (omega (arith, h r refl))
 returned-0 (accepted x) h e = (x, refl)
 
--- reading, judging, and writing and reading a plan are such calls
+-- and what it returns otherwise is the number of its refusal
+pub returned : {A : Type 0} (a : Answer A) → (status a ≡ 0 → ⊥) → a ≡ refused (status a)
+returned (refused r) n = refl
+returned (accepted x) n = absurd (n refl)
+
 sheet-number : (r : ℕ) → SheetNumber r → 0 < r
 sheet-number r h = omega (arith, h .0)
 
+either-number : (m n r : ℕ) → 0 < m → 0 < n → (r ≡ m) ⊎ (r ≡ n) → 0 < r
+either-number m n r hm hn h = ⊎-elim (λ (w : r ≡ m). omega arith) (λ (w : r ≡ n). omega arith) h
+
+-- reading, judging, and writing and reading a plan are such calls
 pub reading-returns : (b : List ℕ) (r : ℕ) → readSheet b ≡ refused r → 0 < r
 reading-returns b r e = sheet-number r (demand-1 .reading b r e)
 
 pub judging-returns : (b q : List ℕ) (r : ℕ) → validate b q ≡ refused r → 0 < r
 judging-returns b q r e = ⊎-elim (sheet-number r) (λ (h : (30 ≤ r) × (r ≤ 34)). omega (arith, h .0)) (demand-1 .judging b q r e)
 
-either-returns : (m n r : ℕ) → 0 < m → 0 < n → (r ≡ m) ⊎ (r ≡ n) → 0 < r
-either-returns m n r hm hn h = ⊎-elim (λ (w : r ≡ m). omega arith) (λ (w : r ≡ n). omega arith) h
+pub plan-writing-returns : (n start : ℕ) (doors : List ℕ) (c : ℕ) (buffer : List ℕ) (r : ℕ) → writePlan n start doors c buffer .answer ≡ refused r → 0 < r
+plan-writing-returns n start doors c buffer r e = either-number 12 21 r (omega arith) (omega arith) (demand-1 .writing-a-plan n start doors c buffer r e .0)
 
 pub plan-reading-returns : (n lent : ℕ) (q : List ℕ) (r : ℕ) → readPlan n lent q ≡ refused r → 0 < r
-plan-reading-returns n lent q r e = either-returns 12 30 r (omega arith) (omega arith) (demand-1 .reading-a-plan n lent q r e)
+plan-reading-returns n lent q r e = either-number 12 30 r (omega arith) (omega arith) (demand-1 .reading-a-plan n lent q r e)
+
+-- ---- demand 1, of the calls that there are
+
+-- after a refusal every place holds what it held before
+pub left-alone : {A B : Type 0} (f : A → B) (a : Answer A) (before : B) → (status a ≡ 0 → ⊥) → placed f a before ≡ before
+left-alone f a before n = ap (λ x. placed f x before) (returned a n)
+
+pub record Demand1Returned : Type 0 where
+  -- a call that does not return 0 returns one of its numbers
+  pub reading : (b : List ℕ) → (status (readSheet b) ≡ 0 → ⊥) → SheetNumber (status (readSheet b))
+  pub judging : (b q : List ℕ) → (status (validate b q) ≡ 0 → ⊥) → SheetNumber (status (validate b q)) ⊎ ((30 ≤ status (validate b q)) × (status (validate b q) ≤ 34))
+  pub reading-a-plan : (n lent : ℕ) (q : List ℕ) → (status (readPlan n lent q) ≡ 0 → ⊥) → (status (readPlan n lent q) ≡ 12) ⊎ (status (readPlan n lent q) ≡ 30)
+  -- and writing then leaves every byte; what the other calls are lent are places, which `left-alone` speaks of
+  pub writing-a-plan : (n start : ℕ) (doors : List ℕ) (c : ℕ) (buffer : List ℕ) → (status (writePlan n start doors c buffer .answer) ≡ 0 → ⊥)
+      → ((status (writePlan n start doors c buffer .answer) ≡ 12) ⊎ (status (writePlan n start doors c buffer .answer) ≡ 21)) × (writePlan n start doors c buffer .bytes ≡ buffer)
+  -- judging returns what reading returns, where that is not 0
+  pub reads-first : (b q : List ℕ) → (status (readSheet b) ≡ 0 → ⊥) → status (validate b q) ≡ status (readSheet b)
+
+pub demand-1-returned : Demand1Returned
+demand-1-returned = record {
+  reading = λ b n. demand-1 .reading b _ (returned (readSheet b) n);
+  judging = λ b q n. demand-1 .judging b q _ (returned (validate b q) n);
+  reading-a-plan = λ n lent q k. demand-1 .reading-a-plan n lent q _ (returned (readPlan n lent q) k);
+  writing-a-plan = λ n start doors c buffer k. demand-1 .writing-a-plan n start doors c buffer _ (returned (writePlan n start doors c buffer .answer) k);
+  reads-first = λ b q n. ap status (demand-1 .reads-first b _ (returned (readSheet b) n) [] [] q .1);
+}
 
 -- ---- demand 2
 
@@ -45,11 +79,15 @@ pub record Demand2Returned : Type 0 where
   pub accepted-iff : (b q : List ℕ) (c before : ℕ) → areBytes b ≡ true → areBytes q ≡ true → status (readSheet b) ≡ 0
       → ((status (validate b q) ≡ 0) × (placed (λ (c : ℕ). c) (validate b q) before ≡ c))
       ↔ ((s : ℕ) × (ds : List ℕ) × (isSolution (decode b) s ds ≡ true) × (c ≡ roundCost (decode b) s ds) × (q ≡ planBytes (decode b .tasks) s ds c))
-  -- a plan written returns 0; its bytes read return 0, and leave its start, doors and cost
+  -- a plan written returns 0 and leaves its length, and bytes beyond that stay
+  pub writes : (n start : ℕ) (doors : List ℕ) (c : ℕ) (buffer : List ℕ) (before : ℕ) → 1 ≤ n → n ≤ maxPlanDoors → n ≤ length doors → 32 + 2 * n ≤ length buffer
+      → (status (writePlan n start doors c buffer .answer) ≡ 0)
+      × (placed (λ (l : ℕ). l) (writePlan n start doors c buffer .answer) before ≡ 32 + 2 * n)
+      × (drop (32 + 2 * n) (writePlan n start doors c buffer .bytes) ≡ drop (32 + 2 * n) buffer)
+  -- its bytes read return 0, and leave its start, doors and cost
   pub written-then-read : (n start : ℕ) (doors : List ℕ) (c : ℕ) (buffer : List ℕ) (start' : ℕ) (doors' : List ℕ) (c' : ℕ)
       → 1 ≤ n → n ≤ maxPlanDoors → n ≤ length doors → n ≤ length doors' → start < 2 ^ 16 → ((i : ℕ) → i < n → getD doors i 0 < 2 ^ 16) → c < 2 ^ 64 → 32 + 2 * n ≤ length buffer
-      → (status (writePlan n start doors c buffer .answer) ≡ 0)
-      × (status (readPlan n (length doors') (take (32 + 2 * n) (writePlan n start doors c buffer .bytes))) ≡ 0)
+      → (status (readPlan n (length doors') (take (32 + 2 * n) (writePlan n start doors c buffer .bytes))) ≡ 0)
       × (placed (λ (x : PlanRead). x .start) (readPlan n (length doors') (take (32 + 2 * n) (writePlan n start doors c buffer .bytes))) start' ≡ start)
       × ((i : ℕ) → i < n → getD (placed (λ (x : PlanRead). x .doors) (readPlan n (length doors') (take (32 + 2 * n) (writePlan n start doors c buffer .bytes))) doors') i 0 ≡ getD doors i 0)
       × (placed (λ (x : PlanRead). x .cost) (readPlan n (length doors') (take (32 + 2 * n) (writePlan n start doors c buffer .bytes))) c' ≡ c)
@@ -66,10 +104,10 @@ demand-2-returned = record {
         (λ h. let a = returned-0 (validate b q) (judging-returns b q) (h .0) in iff .0 (a .1 ∙ ap accepted (sym (ap (λ (x : Answer ℕ). placed (λ (c : ℕ). c) x before) (a .1)) ∙ h .1))),
         (λ h. rw (iff .1 h) (refl, refl)),
       );
+  writes = λ n start doors c buffer before one few there room. let a = demand-2 .rest-stays n start doors c buffer one few there room in rw (a .0) (refl, refl, a .1);
   written-then-read = λ n start doors c buffer start' doors' c' one few there here hs hd hc room.
       let w = demand-2 .written-then-read n start doors c buffer (length doors') one few there here hs hd hc room in
-      let a = demand-2 .rest-stays n start doors c buffer one few there room in
-      rw (a .0, w .1) (refl, refl, w .2, w .3, w .4);
+      rw (w .1) (refl, w .2, w .3, w .4);
   read-then-written = λ n q start doors c buffer hq e same.
       let x = returned-0 (readPlan n (length doors) q) (plan-reading-returns n (length doors) q) e in
       rw (x .1) (demand-2 .read-then-written n (length doors) q (x .0) hq (x .1) buffer same);

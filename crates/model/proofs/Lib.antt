@@ -4,6 +4,7 @@ pub mod Folds
 pub mod Lists
 pub mod Elements
 pub mod Walks
+pub mod Searches
 pub mod SignedSums
 pub mod Masks
 pub mod OpenLists

@@ -121,9 +121,6 @@ pub without-le : (K t : ℕ) → without K t ≤ K
 unfolding without
 without-le K t = omega arith
 
-pub without-lt : (K t : ℕ) → bit K t ≡ 1 → without K t < K
-without-lt K t h = omega (arith, without-is K t h, bit-le t K h, pow-pos t)
-
 pub with-without : (K t : ℕ) → bit K t ≡ 1 → with (without K t) t ≡ K
 unfolding with
 with-without K t h = rw (without-same, without-is) (omega (arith, bit-le t K h))

@@ -79,11 +79,6 @@ pub read-last : (k n : ℕ) (front : List ℕ) → n < 256 ^ k → numberAt k (f
 read-last k n [] h = number-bytes k n h
 read-last k n (x ∷ front) h = number-tail k x (front ++ bytesOf k n) (length front) ∙ read-last k n front h
 
--- and whatever stands behind it
-pub read-written : (k n : ℕ) (front back : List ℕ) → n < 256 ^ k → numberAt k (front ++ bytesOf k n ++ back) (length front) ≡ n
-read-written k n front back h =
-    number-front k (front ++ bytesOf k n) back (length front) (simp (length-append, length-bytesOf) (omega arith)) ∙ read-last k n front h
-
 -- ---- read, then written
 
 -- the bytes of what is read are the bytes that stand there

@@ -16,10 +16,9 @@ use Rattle.model.specs.Answer.{Answer, refused, accepted, refuseIf}
 use Rattle.model.specs.SheetLayout.{lineAt}
 use Rattle.model.specs.PlanLayout.{maxPlanDoors, planStartAt, planDoorsAt, planCostAt, planLength, lineBytes, planHead, planBytes, wrongTasks, writeAnswer, bytesWritten, writePlan, illFormed, startIn, doorIn, doorsIn, costIn, doorArray, PlanRead, readPlan}
 use Rattle.model.proofs.Tests.{tested, or-left, or-right, or-neither, same-list, list-same, between-true, between-is}
-use Rattle.model.proofs.Folds.{flat-cong}
+use Rattle.model.proofs.Folds.{flat-cong, length-mapBelow, mapBelow-at}
 use Rattle.model.proofs.Reading.{refused≢accepted, refused-number, accepted-value, passed}
-use Rattle.model.proofs.Folds.{length-mapBelow, mapBelow-at}
-use Rattle.model.proofs.Numbers.{length-bytesOf, bytes-below, bytes-append, bytes-flat, number-front, read-last, written-on, row, length-row, read-row, row-on, overwritten}
+use Rattle.model.proofs.Numbers.{length-bytesOf, number-front, read-last, written-on, row, length-row, read-row, row-on, overwritten}
 
 -- ---- the parts of a plan
 
@@ -43,28 +42,24 @@ unfolding planHead lineBytes planStartAt lineAt
 length-head n = simp (length-append, length-bytesOf)
 
 -- as far as the start, and as far as the doors
-abbrev toStart : ℕ → ℕ → List ℕ
+abbrev pub toStart : ℕ → ℕ → List ℕ
 toStart n s = planHead n ++ bytesOf 2 s
 
-abbrev toDoors : ℕ → ℕ → List ℕ → List ℕ
+abbrev pub toDoors : ℕ → ℕ → List ℕ → List ℕ
 toDoors n s ds = toStart n s ++ row 2 n (λ i. getD ds i 0)
 
-length-to-start : (n s : ℕ) → length (toStart n s) ≡ planDoorsAt
+pub length-to-start : (n s : ℕ) → length (toStart n s) ≡ planDoorsAt
 unfolding planDoorsAt
 length-to-start n s = simp (length-append, length-head, length-bytesOf)
 
-length-to-doors : (n s : ℕ) (ds : List ℕ) → length (toDoors n s ds) ≡ planCostAt n
+pub length-to-doors : (n s : ℕ) (ds : List ℕ) → length (toDoors n s ds) ≡ planCostAt n
 unfolding planCostAt planDoorsAt
 length-to-doors n s ds = simp (length-append, length-head, length-bytesOf, length-row)
 
--- a plan has the length that its layout says, and its elements are bytes
+-- a plan has the length that its layout says
 pub length-plan : (n s : ℕ) (ds : List ℕ) (c : ℕ) → length (planBytes n s ds c) ≡ planLength n
 unfolding planBytes planLength planCostAt planDoorsAt
 length-plan n s ds c = simp (length-append, length-head, length-bytesOf, length-row)
-
-pub plan-below : (n s : ℕ) (ds : List ℕ) (c : ℕ) → areBytes (planBytes n s ds c) ≡ true
-unfolding planBytes planHead lineBytes
-plan-below n s ds c = search (bytes-append, bytes-below, bytes-flat) depth 12
 
 -- only the first n of the doors are written
 pub plan-cong : (n s : ℕ) (ds es : List ℕ) (c : ℕ) → ((i : ℕ) → i < n → getD ds i 0 ≡ getD es i 0) → planBytes n s ds c ≡ planBytes n s es c

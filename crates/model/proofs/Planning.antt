@@ -22,8 +22,7 @@ use Rattle.model.specs.Planning.{cellsNeeded, orNoOrder, planFor, cellAf
 use Rattle.model.specs.TaskList.{full}
 use Rattle.model.proofs.Tests.{tested}
 use Rattle.model.proofs.Folds.{length-mapBelow, mapBelow-at}
-use Rattle.model.proofs.Reading.{refused≢accepted, refused-number, Reads, Passed, light-then, refused-reads}
-use Rattle.model.proofs.Limits.{counts-within, entries-within}
+use Rattle.model.proofs.Reading.{refused≢accepted, refused-number, Reads, counts-read, Passed, light-then, refused-reads}
 use Rattle.model.proofs.Ranges.{in-range, served}
 use Rattle.model.proofs.Cheapest.{cheapest-some}
 use Rattle.model.proofs.Driving.{Plannable, has-completion}
@@ -113,4 +112,4 @@ pub has-plan : (b : List ℕ) → Reads b → (x : Plan) × (cheapest (decode b)
 has-plan b h =
     let G : Plannable (decode b) = plannable b h in
     let c = has-completion (decode b) G (full (decode b .tasks)) in
-    cheapest-some (decode b) 0 (c .0) (solution-completes (decode b) G 0 (c .0) (counts-within b (entries-within kind1 b (h .passed-tests .counts)) .one-start) ∙ c .1)
+    cheapest-some (decode b) 0 (c .0) (solution-completes (decode b) G 0 (c .0) (counts-read b h .one-start) ∙ c .1)

@@ -11,6 +11,7 @@ use Rattle.model.specs.Orders.{noOrder}
 use Rattle.model.specs.Answer.{Answer, refused, accepted, refuseIf}
 use Rattle.model.specs.SheetLayout.{bodies, kind1, decode}
 use Rattle.model.specs.Faults.{tooShort, wrongKind, wrongEntries, wrongLine, wrongLength, outOfRange, lacksDoor, tooLight, unlessFault}
+use Rattle.model.proofs.Limits.{CountsWithin, counts-within, entries-within}
 
 -- ---- answers
 
@@ -28,11 +29,6 @@ module _ {A : Type 0} where
   pub passed : (t : Bool) (n : ℕ) (a : Answer A) (x : A) → refuseIf t n a ≡ accepted x → (t ≡ false) × (a ≡ accepted x)
   passed true n a x e = absurd (refused≢accepted e)
   passed false n a x e = (refl, e)
-
-  -- or it was the answer
-  pub refused-by : (t : Bool) (n : ℕ) (a : Answer A) (r : ℕ) → refuseIf t n a ≡ refused r → (r ≡ n) ⊎ ((t ≡ false) × (a ≡ refused r))
-  refused-by true n a r e = inl (sym (refused-number e))
-  refused-by false n a r e = inr (refl, e)
 
 -- ---- the sheet's own faults
 
@@ -62,6 +58,10 @@ light-then b a h l = passed-then b a h ∙ ap (λ t. refuseIf t 16 (refuseIf (no
 
 pub reads-then : {A : Type 0} (b : List ℕ) (a : Answer A) → Reads b → unlessFault b a ≡ a
 reads-then b a h = light-then b a (h .passed-tests) (h .light) ∙ ap (λ t. refuseIf t 17 a) (h .ordered)
+
+-- its numbers of entries are within the table
+pub counts-read : (b : List ℕ) → Reads b → CountsWithin (decode b)
+counts-read b h = counts-within b (entries-within kind1 b (h .passed-tests .counts))
 
 -- the chain of the sheet's own faults: what a call answers is what each test in turn leaves
 module _ {A : Type 0} (b : List ℕ) (a : Answer A) (Outcome : Type 0) (e : Answer A)

@@ -4,6 +4,7 @@ use mathlib.Core.Bool.{true}
 use mathlib.Core.List.{List, []}
 use Prim.Native.Nat.{ℕ, suc, _+_, _*_, _^_, _≤_, _<_}
 use native.Mathlib.Nat.{zero-add, mul-le-mul-left}
+use native.Mathlib.Numerals.{add-one}
 use native.Mathlib.Omega.{arith}
 use lib.Dec.{eqb}
 use lib.ListN.{length, take, drop, take-append-drop}
@@ -15,7 +16,7 @@ use Rattle.model.specs.Bytes.{numberAt, bytesOf, overwriteAt}
 use Rattle.model.proofs.Tests.{same-test, all-at, all-below, same-list, list-same}
 use Rattle.model.proofs.Folds.{flat-cong}
 use Rattle.model.proofs.Numbers.{length-bytesOf, number-front, row, length-row, read-row, row-on}
-use Rattle.model.proofs.Overwriting.{over-on}
+use Rattle.model.proofs.Overwriting.{over-not, length-over, over-none, over-on}
 
 -- a number more of a row is written
 pub over-row : (k n i : ℕ) (f : ℕ → ℕ) (b : List ℕ) → i + k * suc n ≤ length b
@@ -41,3 +42,27 @@ same-row k n f b bytes l fits = same-test _ _
         flat-cong n _ (λ i. bytesOf k (numberAt k b (0 + k * i))) (λ i m. ap (bytesOf k) (rw (zero-add (k * i)) (sym (eqb-true _ _ (all-at n _ e i m)))))
         ∙ row-on k n b 0 bytes (omega arith)
         ∙ rw (zero-add (k * n))
+
+-- ---- a row that a loop writes, its numbers of k bytes
+
+pub row-too-long : (k n p : ℕ) (f : ℕ → ℕ) (b : List ℕ) → length b < p + k * n → b ≡ overwriteAt p (row k n f) b
+row-too-long k n p f b h = sym (over-not p (row k n f) b (rw length-row h))
+
+-- of m numbers i are written to the buffer a, from byte p on, which yields b
+pub record Written (k m p : ℕ) (f : ℕ → ℕ) (a b : List ℕ) (i : ℕ) : Type 0 where
+  pub within : i ≤ m
+  pub so-far : b ≡ overwriteAt p (row k i f) a
+
+pub none-written : (k m p : ℕ) (f : ℕ → ℕ) (a : List ℕ) → p ≤ length a → Written k m p f a a 0
+none-written k m p f a h = record { within = omega arith; so-far = sym (over-none p a h) }
+
+module _ {k m p : ℕ} {f : ℕ → ℕ} {a b : List ℕ} {i : ℕ} (w : Written k m p f a b i) where
+  -- d is the buffer after number i
+  pub one-written : (at : ℕ) (d : List ℕ) → i < m → p + k * m ≤ length a → at ≡ p + k * i → d ≡ overwriteAt at (bytesOf k (f i)) b → Written k m p f a d (i + 1)
+  one-written at d l h place e = record { within = omega arith; so-far = rw add-one (e ∙ rw (place, w .so-far) (over-row k i p f a (omega (arith, mul-le-mul-left k l)))) }
+
+  pub same-room : length b ≡ length a
+  same-room = ap length (w .so-far) ∙ length-over p (row k i f) a
+
+  pub all-written : m ≤ i → b ≡ overwriteAt p (row k m f) a
+  all-written l = let e : m ≡ i = omega (arith, w .within) in rw e (w .so-far)

@@ -20,9 +20,9 @@ use Rattle.model.specs.Validating.{notInSheet, doneTwice, validateFor, v
 use Rattle.model.proofs.Tests.{and-left, and-right, and-both, or-left, or-right, or-neither, none-at, none-below}
 use Rattle.model.proofs.Counting.{order-of-all, order-once}
 use Rattle.model.proofs.Solutions.{Solution, solution, is-solution, solution-length, solution-fits}
-use Rattle.model.proofs.Limits.{CountsWithin, counts-within, entries-within}
+use Rattle.model.proofs.Limits.{CountsWithin}
 use Rattle.model.proofs.Ranges.{InRange, in-range}
-use Rattle.model.proofs.Reading.{refused-number, accepted-value, refused≢accepted, passed, Reads, reads-then}
+use Rattle.model.proofs.Reading.{refused-number, accepted-value, refused≢accepted, passed, Reads, reads-then, counts-read}
 use Rattle.model.proofs.PlanBytes.{length-doors, plan-well-formed, start-again, doors-again, cost-again, well-formed-is}
 
 -- ---- start, doors and cost
@@ -81,7 +81,7 @@ validate-for-iff S R s ds c c' e = (there, back)
 
 -- ---- the plan's bytes
 
--- the bytes are validateFor by the start, doors and cost that they were written for
+-- the bytes are judged by the start, doors and cost that they were written for
 plan-validated : (S : Sheet) → CountsWithin S → (s : ℕ) (ds : List ℕ) (c : ℕ) → Solution S s ds → c < 2 ^ 64
     → refuseIf (illFormed (S .tasks) (planBytes (S .tasks) s ds c)) 30
     (validateFor S (startIn (planBytes (S .tasks) s ds c)) (doorsIn (S .tasks) (planBytes (S .tasks) s ds c)) (costIn (S .tasks) (planBytes (S .tasks) s ds c)))
@@ -113,7 +113,7 @@ validate-iff b q c bytes reads small = (there, back)
     back (s, ds, solves, costs, e) =
         let x : Solution S s ds = solution S s ds solves in
         reads-then b _ reads
-        ∙ rw e (plan-validated S (counts-within b (entries-within kind1 b (reads .passed-tests .counts))) s ds c x (rw costs (small s ds solves)))
+        ∙ rw e (plan-validated S (counts-read b reads) s ds c x (rw costs (small s ds solves)))
         ∙ validate-for-iff S R s ds c c (solution-length S s ds x) .1 (solves, costs, refl)
 
 -- ---- what it refuses

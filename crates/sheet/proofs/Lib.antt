@@ -1,4 +1,3 @@
-pub mod Searches
 pub mod Places
 pub mod Lightest
 pub mod Striking

@@ -48,7 +48,7 @@ module _ (S : Sheet) (K t : ℕ) {a b : Bool} (p : a ≡ member K t) (q : b ≡ 
   pub keeps : (a && b) ≡ false → K ≡ cond (canComeFirst S K t) (without K t) K
   keeps h = rw (first, h)
 
--- ---- notWaiting
+-- ---- a pass, and the passes
 
 -- one task more
 pub next-task : (S : Sheet) (K t : ℕ) {left r : ℕ} → left ≡ strikeBelow S t K → r ≡ cond (canComeFirst S left t) (without left t) left → r ≡ strikeBelow S (t + 1) K

@@ -29,13 +29,13 @@ returns c =
     let n = c .before .before in
     let l = n .before in
     c .charge .ensures
-    ∙ sym (charged _ _ _ (l .before .before .before .pre) (omega arith) (l .before .watched .ensures) (n .watched-in .ensures) (l .least-count .ensures) (c .before .if1 .taken))
+    ∙ sym (charged _ _ _ (l .before .before .before .pre) (omega arith) (l .before .watched .ensures) (n .watched-in .ensures) (l .least-count .ensures) (omega arith))
 
 returns-2 : tie.Need-returns-2
 returns-2 c =
     let n = c .before in
     let l = n .before in
-    sym (not-charged _ _ _ (l .before .before .before .pre) (omega arith) (l .before .watched .ensures) (n .watched-in .ensures) (l .least-count .ensures) (c .if1 .left))
+    sym (not-charged _ _ _ (l .before .before .before .pre) (omega arith) (l .before .watched .ensures) (n .watched-in .ensures) (l .least-count .ensures) (omega arith))
 
 pub rule-charge-spec : {M : Type 1} → statement M
 rule-charge-spec =

@@ -1,4 +1,4 @@
--- Every part of the sum is at most the step's cost, which the widths of the fields keep below 2 ^ 53. Assumes nothing.
+-- Every part of the sum is at most the step's cost, which the widths of the fields keep below 2 ^ 64. Assumes nothing.
 use mathlib.Core.Path.{refl}
 use Prim.Native.Nat.{_+_, _*_, _^_, _<_}
 use native.Mathlib.Omega.{arith}
@@ -32,7 +32,7 @@ load-requires c κs = search needs
 whole : (c : tie.After-load) →
     let a = c .before .before .before .before .args in
     let S = decode (a .s .now) in
-    c .before .distance .result * c .load .result + S .work (a .d) + charges S (a .k) (a .d) < 2 ^ 53
+    c .before .distance .result * c .load .result + S .work (a .d) + charges S (a .k) (a .d) < 2 ^ 64
 whole c =
     let a = c .before .before .before .before .args in
     let b = a .s .now in

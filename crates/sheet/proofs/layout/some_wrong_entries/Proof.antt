@@ -7,7 +7,7 @@ use Rattle.model.specs.Folds.{anyBelow}
 use Rattle.model.specs.SheetLayout.{distancesBody, bodies, kind1}
 use Rattle.model.specs.Faults.{wrongEntries}
 use Rattle.model.proofs.Tests.{or-last, any-true}
-use Rattle.sheet.proofs.Searches.{Searched, next}
+use Rattle.model.proofs.Searches.{Searched, next}
 use Rattle.sheet.proofs.Places.{all-distances}
 use borrow.Author.Needs.{needs}
 use Rattle.sheet.proofs.layout.some_wrong_entries.Statement.{statement}

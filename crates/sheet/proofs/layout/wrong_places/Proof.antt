@@ -10,7 +10,7 @@ use Rattle.model.specs.SheetLayout.{bodies, kind1, lineAt, bodyAt}
 use Rattle.model.specs.Faults.{wrongLine, wrongLength}
 use Rattle.model.proofs.Tests.{or-last, any-true}
 use Rattle.field.proofs.Fields.{product-lt}
-use Rattle.sheet.proofs.Searches.{Searched, next}
+use Rattle.model.proofs.Searches.{Searched, next}
 use Rattle.sheet.proofs.Places.{next-body}
 use borrow.Author.Needs.{needs}
 use Rattle.sheet.proofs.layout.wrong_places.Statement.{statement}

@@ -2,7 +2,7 @@
 use Prim.Native.Nat.{_-_}
 use Rattle.model.specs.SheetLayout.{decode}
 use Rattle.model.specs.Faults.{badDoor}
-use Rattle.sheet.proofs.Searches.{Searched, next, found, none-found}
+use Rattle.model.proofs.Searches.{Searched, next, found, none-found}
 use borrow.Author.Needs.{needs}
 use Rattle.sheet.proofs.range.some_bad_door.Statement.{statement}
 use Rattle.sheet.proofs.range.some_bad_door.Tie as tie
