@@ -1,17 +1,15 @@
 // The layout of a plan: head, start, doors and cost.
 ghost use mathlib.Core.Path.{_≡_};
-ghost use Prim.Native.Nat.{_+_, _*_, _≤_, _<_};
 ghost use mathlib.Core.Bool.{not};
 ghost use lib.ListN.{length, getD, take};
 ghost use Rattle.model.specs.Folds.{sameList, flatMapBelow};
 ghost use Rattle.model.specs.Bytes.{bytesOf, overwriteAt};
 ghost use Rattle.model.specs.PlanLayout.{planStartAt, planDoorsAt, planLength, planHead, wrongTasks, doorIn, costIn, doorArray};
 ghost use Rattle.plan.specs.Heads.{headNumbers};
+use crate::MAX_DOORS;
 use number::read_u16;
 use number::read_u64;
 use number::write_u16;
-
-pub(crate) const MAX_DOORS: usize = 12;
 
 pub(crate) const START_AT: usize = 22;
 
@@ -19,7 +17,7 @@ pub(crate) const DOORS_AT: usize = 24;
 
 pub(crate) const COST_BYTES: usize = 8;
 
-// Whether n is outside 1 to 12, or above the number of doors lent.
+// Whether a plan cannot have n doors, or fewer than n are lent.
 pub(crate) fn wrong_tasks(n: usize, lent: usize) -> bool
     ensures { λ r. ⌜ r ≡ wrongTasks n lent ⌝ }
 {
@@ -27,28 +25,33 @@ pub(crate) fn wrong_tasks(n: usize, lent: usize) -> bool
 }
 
 // The length of a plan of n doors.
-pub(crate) fn byte_length(n: usize) -> usize
-    requires { ⌜ n < 65536 ⌝ }
+pub(crate) fn byte_length(n: u16) -> usize
     ensures { λ r. ⌜ r ≡ planLength n ⌝ }
 {
-    DOORS_AT + 2 * n + COST_BYTES
+    DOORS_AT + 2 * n as usize + COST_BYTES
 }
+
+const KIND: u16 = 2;
 
 const HEAD_NUMBERS: usize = 11;
 
 // The head's numbers: kind and zero, then body number, offset and number of entries of start, doors and cost.
-fn head(n: u16) -> [u16; 11]
+fn head(n: u16) -> [u16; HEAD_NUMBERS]
     ensures { λ r. ⌜ r ≡ headNumbers n ⌝ }
 {
-    let cost_at = (24 + 2 * n as u32) % 65536;
-    [2, 0, 1, 22, 1, 2, 24, n, 3, cost_at as u16, 1]
+    let start_at = START_AT as u16;
+    let doors_at = DOORS_AT as u16;
+    let cost_at = ((DOORS_AT + 2 * n as usize) % 65536) as u16;
+    [KIND, 0, 1, start_at, 1, 2, doors_at, n, 3, cost_at, 1]
 }
 
-// Writes the head of a plan of n doors.
+// Writes the head of a plan of n doors, if it fits.
 pub(crate) fn write_head(b: &mut [u8], n: u16)
-    requires { ⌜ planStartAt ≤ length (now b) ⌝ }
     ensures { λ _. ⌜ now (b .exit) ≡ overwriteAt 0 (planHead n) (now (b .entry)) ⌝ }
 {
+    if b.len() < START_AT {
+        return;
+    }
     let numbers = head(n);
     let mut i: usize = 0;
     while i < HEAD_NUMBERS {
@@ -57,11 +60,13 @@ pub(crate) fn write_head(b: &mut [u8], n: u16)
     }
 }
 
-// Whether one of the head's numbers is not that of a plan of n doors.
+// Whether the bytes do not begin with the head of a plan of n doors.
 pub(crate) fn wrong_head(n: u16, q: &[u8]) -> bool
-    requires { ⌜ planStartAt ≤ length (now q) ⌝ }
     ensures { λ r. ⌜ r ≡ not (sameList (take planStartAt (now (q .entry))) (planHead n)) ⌝ }
 {
+    if q.len() < START_AT {
+        return true;
+    }
     let numbers = head(n);
     let mut k: usize = 0;
     while k < HEAD_NUMBERS {
@@ -73,11 +78,18 @@ pub(crate) fn wrong_head(n: u16, q: &[u8]) -> bool
     false
 }
 
-// Writes the first n of the doors.
-pub(crate) fn write_doors(b: &mut [u8], n: usize, doors: &[u16])
-    requires { ⌜ (n ≤ length (now doors)) × (n < 65536) × (planDoorsAt + 2 * n ≤ length (now b)) ⌝ }
-    ensures { λ _. ⌜ now (b .exit) ≡ overwriteAt planDoorsAt (flatMapBelow n (λ i. bytesOf 2 (getD (now (doors .entry)) i 0))) (now (b .entry)) ⌝ }
+// Writes the doors to their place, if they fit.
+pub(crate) fn write_doors(b: &mut [u8], doors: &[u16])
+    ensures { λ _. ⌜ now (b .exit) ≡ overwriteAt planDoorsAt (flatMapBelow (length (now (doors .entry))) (λ i. bytesOf 2 (getD (now (doors .entry)) i 0))) (now (b .entry)) ⌝ }
 {
+    let n = doors.len();
+    let room = b.len();
+    if room < DOORS_AT {
+        return;
+    }
+    if (room - DOORS_AT) / 2 < n {
+        return;
+    }
     let mut i: usize = 0;
     while i < n {
         write_u16(b, DOORS_AT + 2 * i, doors[i]);

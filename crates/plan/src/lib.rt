@@ -2,7 +2,7 @@
 ghost use mathlib.Core.Path.{_≡_};
 ghost use lib.ListN.{length};
 ghost use Rattle.model.specs.Answer.{status, placed};
-ghost use Rattle.model.specs.PlanLayout.{planDoorsAt, planCostAt, planLength, wrongTasks, writePlan, illFormed, startIn, PlanRead, readPlan};
+ghost use Rattle.model.specs.PlanLayout.{writePlan, illFormed, startIn, PlanRead, readPlan};
 ghost use Rattle.model.specs.PlanInHand.{noDoors, withDoor, inHand};
 ghost use Rattle.plan.specs.Answers.{numberOf, answerOf, statusOf, handOf};
 use number::read_u16;
@@ -11,9 +11,12 @@ use number::write_u64;
 
 mod layout;
 
-// A plan in hand: its doors, how many of the twelve places they take, and its cost.
+// The most doors of a plan.
+pub const MAX_DOORS: usize = 12;
+
+// A plan in hand: its doors, how many of the places they take, and its cost.
 pub struct Plan {
-    pub doors: [u16; 12],
+    pub doors: [u16; MAX_DOORS],
     pub count: usize,
     pub cost: u64,
 }
@@ -24,7 +27,7 @@ impl Plan {
         ensures { λ r. ⌜ handOf r ≡ noDoors cost ⌝ }
     {
         Plan {
-            doors: [0u16; 12],
+            doors: [0u16; MAX_DOORS],
             count: 0,
             cost: cost,
         }
@@ -35,7 +38,7 @@ impl Plan {
         ensures { λ r. ⌜ handOf r ≡ withDoor (handOf self) door ⌝ }
     {
         let at = self.count;
-        if layout::MAX_DOORS <= at {
+        if MAX_DOORS <= at {
             return self;
         }
         let mut doors = self.doors;
@@ -86,13 +89,14 @@ pub fn write(n: usize, start: u16, doors: &[u16], cost: u64, buf: &mut [u8]) -> 
     if layout::wrong_tasks(n, doors.len()) {
         return Writing::Refused(Fault::WrongTasks);
     }
-    let length = layout::byte_length(n);
+    let tasks = n as u16;
+    let length = layout::byte_length(tasks);
     if buf.len() < length {
         return Writing::Refused(Fault::ShortBuffer);
     }
-    layout::write_head(buf, n as u16);
+    layout::write_head(buf, tasks);
     write_u16(buf, layout::START_AT, start);
-    layout::write_doors(buf, n, doors);
+    layout::write_doors(buf, &doors[..n]);
     write_u64(buf, length - layout::COST_BYTES, cost);
     Writing::Written(length)
 }
@@ -121,7 +125,7 @@ pub fn read(n: usize, q: &[u8], start: &mut u16, doors: &mut [u16], cost: &mut u
 pub fn ill_formed(n: u16, q: &[u8]) -> bool
     ensures { λ r. ⌜ r ≡ illFormed n (now (q .entry)) ⌝ }
 {
-    q.len() != layout::byte_length(n as usize) || layout::wrong_head(n, q)
+    q.len() != layout::byte_length(n) || layout::wrong_head(n, q)
 }
 
 // The start that the bytes hold.

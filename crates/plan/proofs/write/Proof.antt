@@ -4,8 +4,9 @@ use mathlib.Core.Bool.{false}
 use Prim.Native.Nat.{_≤_}
 use native.Mathlib.Omega.{arith}
 use lib.ListN.{length}
+use lib.Seq.{length-take-le}
 use Rattle.model.specs.SheetLayout.{lineAt}
-use Rattle.model.specs.PlanLayout.{maxPlanDoors, planStartAt, planDoorsAt, wrongTasks}
+use Rattle.model.specs.PlanLayout.{maxPlanDoors, planStartAt, wrongTasks}
 use Rattle.model.proofs.PlanBytes.{fitting, length-is}
 use Rattle.plan.proofs.Parts.{parts-written, wrong-number, no-room, plan-written}
 use borrow.Author.Needs.{needs}
@@ -25,32 +26,32 @@ few c = fitting _ _ (right c) .1
 returns : tie.Need-returns
 returns c = wrong-number _ _ _ _ _ (sym (c .before .wrong-tasks .ensures) ∙ c .if1 .taken)
 
+cast-tasks : tie.Need-cast-tasks
+cast-tasks c = record { fits = omega (arith, few c) }
+
 byte-length-requires : tie.Need-byte-length-requires
-byte-length-requires c κs = omega (arith, few c)
+byte-length-requires c κs = search needs
 
 returns-2 : tie.Need-returns-2
 returns-2 c = no-room _ _ _ _ _ _ (right (c .before .before)) (c .before .byte-length .ensures) (c .if2 .taken)
 
-cast-write-head : tie.Need-cast-write-head
-cast-write-head c = record { fits = omega (arith, few (c .before .before .before)) }
-
 write-head-requires : tie.Need-write-head-requires
-unfolding planStartAt lineAt
-write-head-requires c κs = omega (arith, c .before .before .byte-length .ensures, length-is (c .before .before .before .before .before .before .before .args .n), c .before .if2 .left)
+write-head-requires c κs = search needs
 
 write-u16-requires : tie.Need-write-u16-requires
 write-u16-requires c κs = search needs
 
+slice-aggregate-write-doors : tie.Need-slice-aggregate-write-doors
+slice-aggregate-write-doors c =
+    let e1 = c .before .before .before .before .before .before .before .before .before .before .before .before in
+    sym (length-take-le _ _ (fitting _ _ (right e1) .2))
+
 write-doors-requires : tie.Need-write-doors-requires
-unfolding planDoorsAt planStartAt lineAt
-write-doors-requires c κs =
-    let e2 = c .before .before .before .before .before .before .before .before .before in
-    let e1 = e2 .before .before in
-    (fitting _ _ (right e1) .2, omega (arith, few e1), omega (arith, e2 .if2 .left, e2 .before .byte-length .ensures, length-is (e1 .before .before .before .before .args .n)))
+write-doors-requires c κs = search needs
 
 sub-write-u64 : tie.Need-sub-write-u64
 sub-write-u64 c =
-    let at = c .before .before .before .before .before .before .before .before .before .before .before .before .before .before in
+    let at = c .before .before .before .before .before .before .before .before .before .before .before .before .before .before .before in
     omega (arith, at .byte-length .ensures, length-is (at .before .before .before .before .before .args .n))
 
 write-u64-requires : tie.Need-write-u64-requires
@@ -64,12 +65,13 @@ unfolding planStartAt lineAt
 returns-3 c =
     let c4 = c .before .before in
     let c3 = c4 .before .before .before .before in
-    let c2 = c3 .before .before .before .before in
+    let c2 = c3 .before .before .before .before .before in
     let c1 = c2 .before .before .before .before in
     let e2 = c1 .before .before in
     let len = e2 .before .byte-length .ensures in
-    plan-written _ _ _ _ _ _ (right (e2 .before .before)) len _ (e2 .if2 .left)
-    (parts-written _ _ _ _ _ _ _ _ _ _ len (e2 .if2 .left) (c1 .write-head .ensures) (c2 .write-u16 .ensures) (c3 .write-doors .ensures) (c4 .write-u64 .ensures))
+    let fits = right (e2 .before .before) in
+    plan-written _ _ _ _ _ _ fits len _ (e2 .if2 .left)
+    (parts-written _ _ _ _ _ _ _ _ _ _ (fitting _ _ fits .2) len (e2 .if2 .left) (c1 .write-head .ensures) (c2 .write-u16 .ensures) (c3 .write-doors .ensures) (c4 .write-u64 .ensures))
 
 pub write-spec : {M : Type 1} → statement M
 write-spec =
@@ -77,11 +79,12 @@ write-spec =
     (tie.spec
     wrong-tasks-requires
     returns
+    cast-tasks
     byte-length-requires
     returns-2
-    cast-write-head
     write-head-requires
     write-u16-requires
+    slice-aggregate-write-doors
     write-doors-requires
     sub-write-u64
     write-u64-requires

@@ -7,18 +7,25 @@ use borrow.Author.Needs.{needs}
 use Rattle.plan.proofs.layout.head.Statement.{statement}
 use Rattle.plan.proofs.layout.head.Tie as tie
 
+cast-start-at : tie.Need-cast-start-at
+cast-start-at c = search needs
+
+cast-doors-at : tie.Need-cast-doors-at
+cast-doors-at c = search needs
+
 mul-cost-at : tie.Need-mul-cost-at
 mul-cost-at c = search needs
 
 add-cost-at : tie.Need-add-cost-at
 add-cost-at c = search needs
 
-cast-t6 : tie.Need-cast-t6
-cast-t6 c = search needs
+cast-cost-at : tie.Need-cast-cost-at
+cast-cost-at c = search needs
 
 returns : tie.Need-returns
 unfolding headNumbers planCostAt planDoorsAt planStartAt lineAt
 returns c = refl
 
 pub head-spec : {M : Type 1} → statement M
-head-spec = tie.close (tie.spec mul-cost-at add-cost-at cast-t6 returns)
+head-spec =
+    tie.close (tie.spec cast-start-at cast-doors-at mul-cost-at add-cost-at cast-cost-at returns)

@@ -1,22 +1,31 @@
 -- The doors are a row of numbers, and each turn writes one behind those that are written. Assumes nothing.
 use Prim.Native.Nat.{_-_}
 use native.Mathlib.Omega.{arith}
-use lib.ListN.{getD}
+use lib.ListN.{length, getD}
 use Rattle.model.specs.SheetLayout.{lineAt}
 use Rattle.model.specs.PlanLayout.{planStartAt, planDoorsAt}
-use Rattle.plan.proofs.Rows.{Written, none-written, one-written, same-room, all-written}
+use Rattle.model.proofs.Rows.{Written, none-written, one-written, same-room, all-written, row-too-long}
 use borrow.Author.Needs.{needs}
 use Rattle.plan.proofs.layout.write_doors.Statement.{statement}
 use Rattle.plan.proofs.layout.write_doors.Tie as tie
 
 abbrev Inv-loop : tie.InvT-loop
-Inv-loop b₀ n doors i₀ b i = Written n planDoorsAt (λ j. getD doors j 0) b₀ b i
+Inv-loop b₀ doors n room i₀ b i = Written 2 n planDoorsAt (λ j. getD doors j 0) b₀ b i
 
 abbrev μ-loop : tie.MeasureT-loop
-μ-loop b₀ n doors i₀ b i = n - i
+μ-loop b₀ doors n room i₀ b i = n - i
+
+returns : tie.Need-returns Inv-loop μ-loop
+unfolding planDoorsAt planStartAt lineAt
+returns c = let a = c .before .before .before .args in row-too-long 2 (length (a .doors .now)) planDoorsAt (λ i. getD (a .doors .now) i 0) (a .b .now) (omega arith)
+
+returns-2 : tie.Need-returns-2 Inv-loop μ-loop
+unfolding planDoorsAt planStartAt lineAt
+returns-2 c = let a = c .before .before .before .before .args in row-too-long 2 (length (a .doors .now)) planDoorsAt (λ i. getD (a .doors .now) i 0) (a .b .now) (omega arith)
 
 loop-holds : tie.Need-loop-holds Inv-loop μ-loop
-loop-holds c = none-written _ _ _ _ (omega arith)
+unfolding planDoorsAt planStartAt lineAt
+loop-holds c = none-written _ _ _ _ _ (omega arith)
 
 mul-write-u16 : tie.Need-mul-write-u16 Inv-loop μ-loop
 mul-write-u16 c = search needs
@@ -46,8 +55,8 @@ loop-again c = one-written (c .before .before .before .before .before .before .l
 same-length : tie.Need-same-length Inv-loop μ-loop
 same-length c = same-room (c .before .loop .inv)
 
-returns : tie.Need-returns Inv-loop μ-loop
-returns c = all-written (c .before .loop .inv) (c .loop-test .left)
+returns-3 : tie.Need-returns-3 Inv-loop μ-loop
+returns-3 c = all-written (c .before .loop .inv) (omega arith)
 
 pub write-doors-spec : {M : Type 1} → statement M
 write-doors-spec =
@@ -55,6 +64,8 @@ write-doors-spec =
     (tie.spec
     Inv-loop
     μ-loop
+    returns
+    returns-2
     loop-holds
     mul-write-u16
     add-write-u16
@@ -65,4 +76,4 @@ write-doors-spec =
     loop-less
     loop-again
     same-length
-    returns)
+    returns-3)

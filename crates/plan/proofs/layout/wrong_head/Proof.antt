@@ -1,22 +1,33 @@
 -- The head is a row of numbers that fit their bytes, so it stands in the bytes exactly where each number is read there. Assumes nothing.
+use mathlib.Core.Path.{sym, _∙_}
 use Prim.Native.Nat.{_-_}
+use native.Mathlib.Omega.{arith}
+use borrow.Author.Tests.{eq-eqb}
+use Rattle.model.specs.SheetLayout.{lineAt}
+use Rattle.model.specs.PlanLayout.{planStartAt}
 use Rattle.model.proofs.Elements.{are-bytes}
-use Rattle.plan.proofs.Rows.{Compared, none-compared, one-compared, Comparable, one-differs, none-differs}
+use Rattle.model.proofs.Searches.{PassedBelow, none-tried, passed-on}
+use Rattle.plan.specs.Heads.{headCount}
+use Rattle.plan.proofs.Heads.{sameAt, Comparable, one-differs, none-differs, too-short}
 use borrow.Author.Needs.{needs}
 use Rattle.plan.proofs.layout.wrong_head.Statement.{statement}
 use Rattle.plan.proofs.layout.wrong_head.Tie as tie
 
 abbrev Inv-loop : tie.InvT-loop
-Inv-loop n q numbers k₀ k = Compared q numbers k
+Inv-loop n q numbers k₀ k = PassedBelow headCount (sameAt q numbers) k
 
 abbrev μ-loop : tie.MeasureT-loop
-μ-loop n q numbers k₀ k = 11 - k
+μ-loop n q numbers k₀ k = headCount - k
+
+returns : tie.Need-returns Inv-loop μ-loop
+unfolding planStartAt lineAt
+returns c = let a = c .before .before .args in too-short (a .n) (a .q .now) (c .if1 .taken)
 
 head-requires : tie.Need-head-requires Inv-loop μ-loop
 head-requires c κs = search needs
 
 loop-holds : tie.Need-loop-holds Inv-loop μ-loop
-loop-holds c = none-compared _ _
+loop-holds c = none-tried
 
 mul-read-u16 : tie.Need-mul-read-u16 Inv-loop μ-loop
 mul-read-u16 c = search needs
@@ -24,23 +35,24 @@ mul-read-u16 c = search needs
 read-u16-requires : tie.Need-read-u16-requires Inv-loop μ-loop
 read-u16-requires c κs = search needs
 
-mul-if1 : tie.Need-mul-if1 Inv-loop μ-loop
-mul-if1 c = search needs
+mul-if2 : tie.Need-mul-if2 Inv-loop μ-loop
+mul-if2 c = search needs
 
-array-read-if1 : tie.Need-array-read-if1 Inv-loop μ-loop
-array-read-if1 c = search needs
+array-read-if2 : tie.Need-array-read-if2 Inv-loop μ-loop
+array-read-if2 c = search needs
 
 -- what is known once the numbers are at hand
-comparable : (c : tie.After-head Inv-loop μ-loop) → Comparable (c .before .before .args .n) (c .before .before .args .q .now) (c .head .result)
+comparable : (c : tie.After-head Inv-loop μ-loop) → Comparable (c .before .before .before .args .n) (c .before .before .before .args .q .now) (c .head .result)
+unfolding planStartAt lineAt
 comparable c = record {
   head-is = c .head .ensures;
-  fits = c .before .before .fits .n .fits;
-  bytes = are-bytes (c .before .before .args .q .now) (c .before .shared-slice-known .given);
-  long = c .before .before .pre;
+  fits = c .before .before .before .fits .n .fits;
+  bytes = are-bytes (c .before .before .before .args .q .now) (c .before .before .shared-slice-known .given);
+  long = c .before .if1 .left;
 }
 
-returns : tie.Need-returns Inv-loop μ-loop
-returns c = one-differs (comparable (c .before .before .before .before)) (c .before .before .loop-test .taken) (c .before .read-u16 .ensures) (c .if1 .taken)
+returns-2 : tie.Need-returns-2 Inv-loop μ-loop
+returns-2 c = one-differs (comparable (c .before .before .before .before)) (omega arith) (c .before .read-u16 .ensures) (c .if2 .taken)
 
 add-k : tie.Need-add-k Inv-loop μ-loop
 add-k c = search needs
@@ -49,10 +61,10 @@ loop-less : tie.Need-loop-less Inv-loop μ-loop
 loop-less c = search needs
 
 loop-again : tie.Need-loop-again Inv-loop μ-loop
-loop-again c = one-compared (c .before .before .before .loop .inv) (c .before .before .loop-test .taken) (c .before .read-u16 .ensures) (c .if1 .left)
+loop-again c = passed-on (c .before .before .before .loop .inv) (omega arith) (eq-eqb _ _ (sym (c .before .read-u16 .ensures) ∙ c .if2 .left))
 
-returns-2 : tie.Need-returns-2 Inv-loop μ-loop
-returns-2 c = none-differs (comparable (c .before .before)) (c .before .loop .inv) (c .loop-test .left)
+returns-3 : tie.Need-returns-3 Inv-loop μ-loop
+returns-3 c = none-differs (comparable (c .before .before)) (c .before .loop .inv) (omega arith)
 
 pub wrong-head-spec : {M : Type 1} → statement M
 wrong-head-spec =
@@ -60,14 +72,15 @@ wrong-head-spec =
     (tie.spec
     Inv-loop
     μ-loop
+    returns
     head-requires
     loop-holds
     mul-read-u16
     read-u16-requires
-    mul-if1
-    array-read-if1
-    returns
+    mul-if2
+    array-read-if2
+    returns-2
     add-k
     loop-less
     loop-again
-    returns-2)
+    returns-3)
