@@ -16,9 +16,8 @@ use Rattle.model.specs.PlanLayout.{illFormed, startIn, doorsIn, costIn}
 use Rattle.model.specs.PlanInHand.{PlanInHand, inHand}
 use Rattle.model.specs.Validating.{notInSheet, doneTwice, validateFor, validate}
 use Rattle.model.proofs.Tests.{or-right}
-use Rattle.model.proofs.Limits.{entries-within, counts-within}
 use Rattle.model.proofs.Ranges.{in-range}
-use Rattle.model.proofs.Reading.{Reads, accepted-value, accepted-reads, refused-alike, reads-then}
+use Rattle.model.proofs.Reading.{Reads, counts-read, accepted-value, accepted-reads, refused-alike, reads-then}
 use Rattle.model.proofs.Loads.{light}
 use Rattle.model.proofs.PlanBytes.{length-doors}
 use Rattle.model.proofs.InHand.{in-hand-count, in-hand-cost, in-hand-doors}
@@ -44,7 +43,7 @@ unfolding readSheet validate
 sheet-refused b q {r} e = sym (refused-alike b _ _ _ r refl (sym e))
 
 pub few-tasks : (b : List ℕ) → Reads b → decode b .tasks ≤ maxTasks
-few-tasks b h = counts-within b (entries-within kind1 b (h .passed-tests .counts)) .tasks
+few-tasks b h = counts-read b h .tasks
 
 -- the code's n is the number of tasks
 pub ill-formed : (b q : List ℕ) {n : ℕ} → Reads b → n ≡ decode b .tasks → illFormed n q ≡ true → refused 30 ≡ validate b q

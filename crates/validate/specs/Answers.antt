@@ -5,8 +5,8 @@ use Rattle.model.specs.Answer.{Answer, refused, accepted}
 use Rattle.sheet.specs.Answers as sheet
 use Rattle.validate.specs.declared.Refusal.{Refusal}
 use Rattle.validate.specs.declared.Refusal.the-variants.{Sheet, IllFormed, NotInSheet, DoneTwice, ReceiverFirst, WrongCost}
-use Rattle.validate.specs.declared.Judgement.{Judgement}
-use Rattle.validate.specs.declared.Judgement.the-variants.{Accepted, Refused}
+use Rattle.validate.specs.declared.Validation.{Validation}
+use Rattle.validate.specs.declared.Validation.the-variants.{Accepted, Refused}
 
 -- the number of a refusal
 abbrev pub numberOf : Refusal → ℕ
@@ -18,6 +18,6 @@ numberOf ReceiverFirst = 33
 numberOf WrongCost = 34
 
 -- what validating answered
-abbrev pub answerOf : Judgement → Answer ℕ
+abbrev pub answerOf : Validation → Answer ℕ
 answerOf (Accepted c) = accepted c
 answerOf (Refused r) = refused (numberOf r)

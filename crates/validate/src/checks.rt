@@ -6,6 +6,7 @@ ghost use Rattle.model.specs.Folds.{countOf, indexOf};
 ghost use Rattle.model.specs.SheetLayout.{decode};
 ghost use Rattle.model.specs.Orders.{keepsEveryPair};
 ghost use Rattle.model.specs.Validating.{notInSheet, doneTwice};
+use plan::MAX_DOORS;
 
 // 31: whether the start or a door is not in the sheet.
 pub(crate) fn not_in_sheet(s: &[u8], start: u16, doors: &[u16]) -> bool
@@ -25,13 +26,16 @@ pub(crate) fn not_in_sheet(s: &[u8], start: u16, doors: &[u16]) -> bool
     false
 }
 
-// The task of each door.
-pub(crate) fn tasks_of(s: &[u8], doors: [u16; 12]) -> [u16; 12]
+// The places for the doors of a plan.
+type Places = [u16; MAX_DOORS];
+
+// The task of the door in each place.
+pub(crate) fn tasks_of(s: &[u8], doors: Places) -> Places
     ensures { λ r. ⌜ r ≡ map (decode (now (s .entry)) .task) doors ⌝ }
 {
     let mut tasks = doors;
     let mut i: usize = 0;
-    while i < 12 {
+    while i < MAX_DOORS {
         tasks[i] = field::task(s, doors[i]);
         i = i + 1;
     }

@@ -20,7 +20,7 @@ pub enum Refusal {
 }
 
 // What validating answers: the cost, or why not.
-pub enum Judgement {
+pub enum Validation {
     Accepted(u64),
     Refused(Refusal),
 }
@@ -40,23 +40,23 @@ pub fn number_of(r: Refusal) -> u32
 }
 
 // Validates the plan q for the sheet s. The first refusal that applies is the answer.
-pub fn validate(s: &[u8], q: &[u8]) -> Judgement
+pub fn validate(s: &[u8], q: &[u8]) -> Validation
     ensures { λ r. ⌜ answerOf r ≡ validate (now (s .entry)) (now (q .entry)) ⌝ }
 {
     let reading = sheet::read(s);
     match reading {
-        Reading::Read(counts) => judge(s, q, counts.tasks),
-        Reading::Refused(fault) => Judgement::Refused(Refusal::Sheet(fault)),
+        Reading::Read(counts) => validate_plan(s, q, counts.tasks),
+        Reading::Refused(fault) => Validation::Refused(Refusal::Sheet(fault)),
     }
 }
 
-// The same for a sheet of n tasks that reads.
-fn judge(s: &[u8], q: &[u8], n: u16) -> Judgement
+// The same for a sheet that reads, of n tasks.
+fn validate_plan(s: &[u8], q: &[u8], n: u16) -> Validation
     requires { ⌜ (status (readSheet (now s)) ≡ 0) × (n ≡ decode (now s) .tasks) ⌝ }
     ensures { λ r. ⌜ answerOf r ≡ validate (now (s .entry)) (now (q .entry)) ⌝ }
 {
     if plan::ill_formed(n, q) {
-        return Judgement::Refused(Refusal::IllFormed);
+        return Validation::Refused(Refusal::IllFormed);
     }
     let start = plan::start_in(q);
     let x = plan::in_hand(n, q);
@@ -64,17 +64,17 @@ fn judge(s: &[u8], q: &[u8], n: u16) -> Judgement
     let doors = x.doors;
     let tasks = checks::tasks_of(s, doors);
     if checks::not_in_sheet(s, start, &doors[..count]) {
-        return Judgement::Refused(Refusal::NotInSheet);
+        return Validation::Refused(Refusal::NotInSheet);
     }
     if checks::done_twice(s, &tasks[..count]) {
-        return Judgement::Refused(Refusal::DoneTwice);
+        return Validation::Refused(Refusal::DoneTwice);
     }
     if checks::breaks_pair(s, &tasks[..count]) {
-        return Judgement::Refused(Refusal::ReceiverFirst);
+        return Validation::Refused(Refusal::ReceiverFirst);
     }
     let cost = cost::route(s, field::start_point(s, start), &doors[..count]);
     if x.cost != cost {
-        return Judgement::Refused(Refusal::WrongCost);
+        return Validation::Refused(Refusal::WrongCost);
     }
-    Judgement::Accepted(cost)
+    Validation::Accepted(cost)
 }

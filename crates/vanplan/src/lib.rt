@@ -8,7 +8,7 @@ ghost use Rattle.model.specs.PlanLayout.{writePlan, PlanRead, readPlan};
 ghost use Rattle.model.specs.Validating.{validate};
 use plan::Writing;
 use sheet::Reading;
-use validate::Judgement;
+use validate::Validation;
 
 // What a call returns that is not refused.
 const OK: u32 = 0;
@@ -82,12 +82,12 @@ pub extern "C" fn vanplan_validate(sheet: &[u8], plan: &[u8], cost: &mut u64) ->
     ensures returned { λ r. ⌜ r ≡ status (validate (now (sheet .entry)) (now (plan .entry))) ⌝ }
     ensures cost { λ r. ⌜ now (cost .exit) ≡ placed (λ (c : ℕ). c) (validate (now (sheet .entry)) (now (plan .entry))) (now (cost .entry)) ⌝ }
 {
-    let judgement = validate::validate(sheet, plan);
-    match judgement {
-        Judgement::Accepted(round) => {
-            *cost = round;
+    let validation = validate::validate(sheet, plan);
+    match validation {
+        Validation::Accepted(value) => {
+            *cost = value;
             OK
         }
-        Judgement::Refused(refusal) => validate::number_of(refusal),
+        Validation::Refused(refusal) => validate::number_of(refusal),
     }
 }

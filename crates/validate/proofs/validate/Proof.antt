@@ -12,8 +12,8 @@ read-requires c κs = search needs
 enum-known-reading : tie.Need-enum-known-reading
 enum-known-reading c = search needs
 
-judge-requires : tie.Need-judge-requires
-judge-requires c κs = read-counts _ (ap answerOf (sym (c .before .reading .given .1)) ∙ c .before .before .before .read .ensures)
+validate-plan-requires : tie.Need-validate-plan-requires
+validate-plan-requires c κs = read-counts _ (ap answerOf (sym (c .before .reading .given .1)) ∙ c .before .before .before .read .ensures)
 
 enum-known-reading-2 : tie.Need-enum-known-reading-2
 enum-known-reading-2 c = search needs
@@ -30,7 +30,7 @@ validate-spec =
     (tie.spec
     read-requires
     enum-known-reading
-    judge-requires
+    validate-plan-requires
     enum-known-reading-2
     returns
     returns-2)

@@ -8,23 +8,23 @@ use Rattle.vanplan.proofs.vanplan_validate.Tie as tie
 validate-requires : tie.Need-validate-requires
 validate-requires c κs = search needs
 
-enum-known-judgement : tie.Need-enum-known-judgement
-enum-known-judgement c = search needs
+enum-known-validation : tie.Need-enum-known-validation
+enum-known-validation c = search needs
 
-enum-known-judgement-2 : tie.Need-enum-known-judgement-2
-enum-known-judgement-2 c = search needs
+enum-known-validation-2 : tie.Need-enum-known-validation-2
+enum-known-validation-2 c = search needs
 
 number-of-requires : tie.Need-number-of-requires
 number-of-requires c κs = search needs
 
 returns : tie.Need-returns
 returns c =
-    let e = sym (c .before .before .before .validate .ensures) ∙ ap answerOf (c .before .judgement .given .1) in
+    let e = sym (c .before .before .before .validate .ensures) ∙ ap answerOf (c .before .validation .given .1) in
     (rw e, rw e)
 
 returns-2 : tie.Need-returns-2
 returns-2 c =
-    let e = sym (c .before .before .before .before .validate .ensures) ∙ ap answerOf (c .before .before .judgement2 .given .1) in
+    let e = sym (c .before .before .before .before .validate .ensures) ∙ ap answerOf (c .before .before .validation2 .given .1) in
     (rw e (c .number-of .ensures), rw e)
 
 pub vanplan-validate-spec : {M : Type 1} → statement M
@@ -32,8 +32,8 @@ vanplan-validate-spec =
     tie.close
     (tie.spec
     validate-requires
-    enum-known-judgement
-    enum-known-judgement-2
+    enum-known-validation
+    enum-known-validation-2
     number-of-requires
     returns
     returns-2)

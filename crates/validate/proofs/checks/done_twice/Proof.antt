@@ -3,12 +3,13 @@ use mathlib.Core.Path.{ap}
 use mathlib.Core.Bool.{Bool}
 use mathlib.Core.List.{List}
 use Prim.Native.Nat.{ℕ, _-_}
+use native.Mathlib.Omega.{arith}
 use lib.Dec.{ltb}
 use borrow.Author.Tests.{lt-ltb, le-ltb}
 use borrow.Author.Needs.{needs}
 use Rattle.model.specs.Folds.{countOf}
 use Rattle.model.specs.Validating.{doneTwice}
-use Rattle.sheet.proofs.Searches.{Searched, next, found, none-found}
+use Rattle.model.proofs.Searches.{Searched, next, found, none-found}
 use Rattle.validate.proofs.checks.done_twice.Statement.{statement}
 use Rattle.validate.proofs.checks.done_twice.Tie as tie
 
@@ -35,7 +36,7 @@ returns : tie.Need-returns Inv-loop μ-loop
 unfolding doneTwice
 returns c =
     let e = ap (ltb 1) (c .before .count-of .ensures) in
-    found _ (c .before .before .loop-test .taken) (c .before .before .before .before .tasks .ensures) e (lt-ltb 1 _ (c .if1 .taken))
+    found _ (c .before .before .loop-test .taken) (c .before .before .before .before .tasks .ensures) e (lt-ltb 1 (c .before .count-of .result) (omega arith))
 
 add-t : tie.Need-add-t Inv-loop μ-loop
 add-t c = search needs
@@ -44,7 +45,7 @@ loop-less : tie.Need-loop-less Inv-loop μ-loop
 loop-less c = search needs
 
 loop-again : tie.Need-loop-again Inv-loop μ-loop
-loop-again c = next (c .before .before .before .loop .inv) (c .before .before .loop-test .taken) (ap (ltb 1) (c .before .count-of .ensures)) (le-ltb 1 _ (c .if1 .left))
+loop-again c = next (c .before .before .before .loop .inv) (c .before .before .loop-test .taken) (ap (ltb 1) (c .before .count-of .ensures)) (le-ltb 1 (c .before .count-of .result) (omega arith))
 
 returns-2 : tie.Need-returns-2 Inv-loop μ-loop
 unfolding doneTwice

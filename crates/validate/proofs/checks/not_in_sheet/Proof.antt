@@ -1,11 +1,11 @@
 -- The start is in the sheet, and so is each door before place i: where one is not, the loop ends. Assumes nothing.
 use mathlib.Core.Path.{_≡_, sym, ap}
-use mathlib.Core.Bool.{Bool, true, not}
+use mathlib.Core.Bool.{Bool, true, false, not}
 use mathlib.Core.List.{List}
-use Prim.Native.Nat.{ℕ, _-_, _≤_, _<_}
+use Prim.Native.Nat.{ℕ, _+_, _-_, _≤_, _<_}
 use native.Mathlib.Omega.{arith}
 use lib.Dec.{ltb}
-use lib.ListN.{length}
+use lib.ListN.{length, getD}
 use borrow.Author.Tests.{le-leb, lt-leb, lt-ltb, le-ltb}
 use borrow.Author.Needs.{needs}
 use Rattle.model.specs.Folds.{allIn}
@@ -25,6 +25,14 @@ module _ (S : Sheet) (start : ℕ) (ds : List ℕ) {starts : ℕ} (e : starts �
   then-doors : {limit : ℕ} {t : Bool} → start < starts → limit ≡ S .doors → allIn (λ d. ltb d limit) ds ≡ t → not t ≡ notInSheet S start ds
   unfolding notInSheet inSheet
   then-doors l q h = rw (lt-leb (S .starts) start (omega arith), ← q) (sym (ap not h))
+
+-- door i is below the limit, or it is not
+module _ {limit i : ℕ} {ds : List ℕ} (h : PassedTo (λ d. ltb d limit) ds i) (l : i < length ds) where
+  door-in : getD ds i 0 < limit → PassedTo (λ d. ltb d limit) ds (i + 1)
+  door-in k = pass-next h l (lt-ltb _ _ k)
+
+  door-out : limit ≤ getD ds i 0 → allIn (λ d. ltb d limit) ds ≡ false
+  door-out k = pass-fails h l (le-ltb _ _ k)
 
 abbrev Inv-loop : tie.InvT-loop
 Inv-loop s start doors limit i₀ i = PassedTo (λ d. ltb d limit) doors i
@@ -53,7 +61,7 @@ shared-slice-read-if2 c = search needs
 returns-2 : tie.Need-returns-2 Inv-loop μ-loop
 returns-2 c =
     let a = c .before .before .before .before in
-    let t = pass-fails (c .before .before .before .loop .inv) (c .before .before .loop-test .taken) (le-ltb _ _ (c .if2 .taken)) in
+    let t = door-out (c .before .before .before .loop .inv) (c .before .before .loop-test .taken) (omega arith) in
     then-doors _ _ _ (a .before .before .starts .ensures) (a .before .if1 .left) (a .doors .ensures) t
 
 add-i : tie.Need-add-i Inv-loop μ-loop
@@ -63,7 +71,7 @@ loop-less : tie.Need-loop-less Inv-loop μ-loop
 loop-less c = search needs
 
 loop-again : tie.Need-loop-again Inv-loop μ-loop
-loop-again c = pass-next (c .before .before .before .loop .inv) (c .before .before .loop-test .taken) (lt-ltb _ _ (c .if2 .left))
+loop-again c = door-in (c .before .before .before .loop .inv) (c .before .before .loop-test .taken) (omega arith)
 
 returns-3 : tie.Need-returns-3 Inv-loop μ-loop
 returns-3 c =

@@ -4,6 +4,7 @@ use Prim.Native.Nat.{_-_}
 use lib.ListN.{getD}
 use borrow.Author.Needs.{needs}
 use Rattle.model.specs.SheetLayout.{decode}
+use Rattle.model.specs.PlanLayout.{maxPlanDoors}
 use Rattle.model.proofs.Arrays.{Filled, none-filled, one-filled, all-mapped}
 use Rattle.validate.proofs.checks.tasks_of.Statement.{statement}
 use Rattle.validate.proofs.checks.tasks_of.Tie as tie
@@ -12,7 +13,7 @@ abbrev Inv-loop : tie.InvT-loop
 Inv-loop s doors tasks₀ i₀ tasks i = Filled (λ j. decode s .task (getD doors j 0)) doors tasks i
 
 abbrev μ-loop : tie.MeasureT-loop
-μ-loop s doors tasks₀ i₀ tasks i = 12 - i
+μ-loop s doors tasks₀ i₀ tasks i = maxPlanDoors - i
 
 loop-holds : tie.Need-loop-holds Inv-loop μ-loop
 loop-holds c = none-filled _ _

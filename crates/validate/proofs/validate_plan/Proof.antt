@@ -10,12 +10,13 @@ use lib.Seq.{length-take-le}
 use borrow.Author.Needs.{needs}
 use Rattle.model.specs.Orders.{keepsEveryPair}
 use Rattle.model.specs.SheetLayout.{decode}
+use Rattle.model.specs.PlanLayout.{maxPlanDoors}
 use Rattle.model.specs.PlanInHand.{PlanInHand}
 use Rattle.model.specs.Validating.{notInSheet, doneTwice}
 use Rattle.plan.specs.Answers.{handOf}
 use Rattle.validate.proofs.Judging.{reads, few-tasks, ill-formed, Held, hold, not-in-sheet, done-twice, wrong-order, wrong-cost, right-cost, can-cost}
-use Rattle.validate.proofs.judge.Statement.{statement}
-use Rattle.validate.proofs.judge.Tie as tie
+use Rattle.validate.proofs.validate_plan.Statement.{statement}
+use Rattle.validate.proofs.validate_plan.Tie as tie
 
 -- ---- what the code has, once the tasks are known
 
@@ -47,7 +48,7 @@ module _ (c : tie.After-tasks-of) where
 
   doors-fit : hand .count ≤ length (hand .doors)
   doors-fit =
-      let twelve : length (hand .doors) ≡ 12 = search needs in
+      let twelve : length (hand .doors) ≡ maxPlanDoors = search needs in
       omega (arith, held .count-is, few-tasks sheet (held .sheet))
 
   tasks-fit : hand .count ≤ length (c .tasks-of .result)
@@ -149,17 +150,17 @@ returns-5 c =
     let e4 = c .before .before .before .before .before in
     let e3 = e4 .before .before .before in
     wrong-cost (held (at4 e4)) (known (e3 .before .before .before)) (once e3) (ordered e4)
-    (c .before .before .before .before .start-point .ensures) (c .before .before .route .ensures) (c .if5 .taken)
+    (c .before .before .before .before .start-point .ensures) (c .before .before .route .ensures) (λ e. omega arith)
 
 returns-6 : tie.Need-returns-6
 returns-6 c =
     let e4 = c .before .before .before .before .before in
     let e3 = e4 .before .before .before in
     right-cost (held (at4 e4)) (known (e3 .before .before .before)) (once e3) (ordered e4)
-    (c .before .before .before .before .start-point .ensures) (c .before .before .route .ensures) (c .if5 .left)
+    (c .before .before .before .before .start-point .ensures) (c .before .before .route .ensures) (omega arith)
 
-pub judge-spec : {M : Type 1} → statement M
-judge-spec =
+pub validate-plan-spec : {M : Type 1} → statement M
+validate-plan-spec =
     tie.close
     (tie.spec
     ill-formed-requires
