@@ -24,6 +24,10 @@ static size_t load(const char *name, uint8_t *room, size_t size)
         exit(2);
     }
     len = fread(room, 1, size, file);
+    if (ferror(file)) {
+        perror(name);
+        exit(2);
+    }
     fclose(file);
     return len;
 }

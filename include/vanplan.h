@@ -2,10 +2,10 @@
  *
  * Link with libvanplan.a, which `rt staticlib vanplan` writes to target/staticlib/ (x86-64 Linux).
  *
- * Every call returns 0, or the number of a refusal; it then has written nothing through any pointer. Where several
- * refusals apply, the lowest number is returned. Any bytes and any numbers may be passed: no call reads or writes
- * outside of what it is lent, and every call ends. A call keeps nothing from one call to the next and may be made from
- * several threads at once.
+ * Every call returns 0, or the number of a refusal, and where it refuses it has written nothing through any pointer.
+ * Where several refusals apply, the lowest number is returned. Any bytes and any numbers may be passed: no call reads
+ * or writes outside of what it is lent, and every call ends. A call keeps nothing from one call to the next and may be
+ * made from several threads at once.
  *
  * The caller ensures, since no call can test it, that a pointer with a length points to at least that many elements
  * (and is not NULL, even where the length is 0), that any other pointer points to one number that may be
