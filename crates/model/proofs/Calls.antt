@@ -7,12 +7,16 @@ use Prim.Native.Nat.{ℕ, _+_, _*_, _^_, _≤_, _<_}
 use native.Mathlib.Omega.{arith}
 use lib.ListN.{length, getD, take, drop}
 use lib.Pow.{areBytes}
+use Rattle.model.specs.Orders.{isAdmissible}
 use Rattle.model.specs.Plans.{isSolution, roundCost}
 use Rattle.model.specs.Answer.{Answer, refused, accepted, status, placed}
 use Rattle.model.specs.SheetLayout.{decode}
-use Rattle.model.specs.Faults.{readSheet}
+use Rattle.model.specs.Faults.{Counts, readSheet}
 use Rattle.model.specs.PlanLayout.{maxPlanDoors, planBytes, PlanRead, writePlan, readPlan}
 use Rattle.model.specs.Validating.{validate}
+use Rattle.model.proofs.Reading.{accepted-reads}
+use Rattle.model.proofs.Passing.{Passes}
+use Rattle.model.proofs.Loads.{Light}
 use Rattle.model.proofs.Demands.{SheetNumber, demand-1, demand-2}
 
 -- ---- what is returned
@@ -33,15 +37,12 @@ sheet-number r h = omega (arith, h .0)
 either-number : (m n r : ℕ) → 0 < m → 0 < n → (r ≡ m) ⊎ (r ≡ n) → 0 < r
 either-number m n r hm hn h = ⊎-elim (λ (w : r ≡ m). omega arith) (λ (w : r ≡ n). omega arith) h
 
--- reading, judging, and writing and reading a plan are such calls
+-- reading, judging and reading a plan are such calls
 pub reading-returns : (b : List ℕ) (r : ℕ) → readSheet b ≡ refused r → 0 < r
 reading-returns b r e = sheet-number r (demand-1 .reading b r e)
 
 pub judging-returns : (b q : List ℕ) (r : ℕ) → validate b q ≡ refused r → 0 < r
 judging-returns b q r e = ⊎-elim (sheet-number r) (λ (h : (30 ≤ r) × (r ≤ 34)). omega (arith, h .0)) (demand-1 .judging b q r e)
-
-pub plan-writing-returns : (n start : ℕ) (doors : List ℕ) (c : ℕ) (buffer : List ℕ) (r : ℕ) → writePlan n start doors c buffer .answer ≡ refused r → 0 < r
-plan-writing-returns n start doors c buffer r e = either-number 12 21 r (omega arith) (omega arith) (demand-1 .writing-a-plan n start doors c buffer r e .0)
 
 pub plan-reading-returns : (n lent : ℕ) (q : List ℕ) (r : ℕ) → readPlan n lent q ≡ refused r → 0 < r
 plan-reading-returns n lent q r e = either-number 12 30 r (omega arith) (omega arith) (demand-1 .reading-a-plan n lent q r e)
@@ -53,6 +54,10 @@ pub left-alone : {A B : Type 0} (f : A → B) (a : Answer A) (before : B) → (s
 left-alone f a before n = ap (λ x. placed f x before) (returned a n)
 
 pub record Demand1Returned : Type 0 where
+  -- reading returns 0 exactly for a sheet that is laid out as it should be, has no load below zero, and has an order of its tasks that keeps every pair; it then leaves N and P
+  pub reads-iff : (b : List ℕ) → (status (readSheet b) ≡ 0) ↔ (Passes b × Light (decode b) × ((ts : List ℕ) × (isAdmissible (decode b) ts ≡ true)))
+  pub counts-left : (b : List ℕ) (t p : ℕ) → status (readSheet b) ≡ 0
+      → (placed (λ (c : Counts). c .tasks) (readSheet b) t ≡ decode b .tasks) × (placed (λ (c : Counts). c .points) (readSheet b) p ≡ decode b .points)
   -- a call that does not return 0 returns one of its numbers
   pub reading : (b : List ℕ) → (status (readSheet b) ≡ 0 → ⊥) → SheetNumber (status (readSheet b))
   pub judging : (b q : List ℕ) → (status (validate b q) ≡ 0 → ⊥) → SheetNumber (status (validate b q)) ⊎ ((30 ≤ status (validate b q)) × (status (validate b q) ≤ 34))
@@ -63,8 +68,20 @@ pub record Demand1Returned : Type 0 where
   -- judging returns what reading returns, where that is not 0
   pub reads-first : (b q : List ℕ) → (status (readSheet b) ≡ 0 → ⊥) → status (validate b q) ≡ status (readSheet b)
 
+-- what reading answered where it returned 0
+read-again : (b : List ℕ) → status (readSheet b) ≡ 0 → readSheet b ≡ accepted (record { tasks = decode b .tasks; points = decode b .points })
+unfolding readSheet
+read-again b e =
+    let r = returned-0 (readSheet b) (reading-returns b) e in
+    r .1 ∙ sym (accepted-reads b _ (r .0) (r .1) .1)
+
 pub demand-1-returned : Demand1Returned
 demand-1-returned = record {
+  reads-iff = λ b. (
+    (λ e. demand-1 .reads-iff b .0 (read-again b e)),
+    (λ h. ap status (demand-1 .reads-iff b .1 h)),
+  );
+  counts-left = λ b t p e. rw (read-again b e) (refl, refl);
   reading = λ b n. demand-1 .reading b _ (returned (readSheet b) n);
   judging = λ b q n. demand-1 .judging b q _ (returned (validate b q) n);
   reading-a-plan = λ n lent q k. demand-1 .reading-a-plan n lent q _ (returned (readPlan n lent q) k);
