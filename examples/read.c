@@ -15,8 +15,13 @@ int main(void)
 {
     uint64_t tasks, points;
     size_t len = fread(sheet, 1, sizeof sheet, stdin);
-    uint32_t refused = vanplan_read(sheet, len, &tasks, &points);
+    uint32_t refused;
 
+    if (ferror(stdin)) {
+        perror("standard input");
+        return 2;
+    }
+    refused = vanplan_read(sheet, len, &tasks, &points);
     if (refused) {
         printf("refused %" PRIu32 "\n", refused);
         return 1;

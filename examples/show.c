@@ -23,7 +23,7 @@ int main(int argc, char **argv)
     char *end;
 
     n = argc == 2 ? (size_t)strtoul(argv[1], &end, 10) : 0;
-    if (argc != 2 || end == argv[1] || *end) {
+    if (argc != 2 || *argv[1] < '0' || *argv[1] > '9' || *end) {
         fprintf(stderr, "usage: %s TASKS < PLAN\n", argv[0]);
         return 2;
     }
