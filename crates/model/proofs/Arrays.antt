@@ -66,7 +66,7 @@ all-mapped g {a} s l = all-filled s l ∙ map-places g a
 -- ---- an array of doors, with one door more
 
 -- f and g differ at n only
-map-set : (m n : ℕ) (f g : ℕ → ℕ) → n < m → ((i : ℕ) → i ≢ n → f i ≡ g i) → set (mapBelow m f) n (g n) ≡ mapBelow m g
+pub map-set : (m n : ℕ) (f g : ℕ → ℕ) → n < m → ((i : ℕ) → i ≢ n → f i ≡ g i) → set (mapBelow m f) n (g n) ≡ mapBelow m g
 map-set m n f g h other = ext-getD 0 _ _ (length-set (mapBelow m f) n (g n) ∙ length-mapBelow m f ∙ sym (length-mapBelow m g)) (λ i l.
     let k : i < m = rw (length-set, length-mapBelow) at l in
     at i k (eqb i n) refl ∙ sym (mapBelow-at m g i 0 k))

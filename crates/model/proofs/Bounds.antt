@@ -25,7 +25,6 @@ use Rattle.model.proofs.Masks.{size-le}
 use Rattle.model.proofs.Lists.{All, all-kept}
 use Rattle.model.proofs.Counting.{order-length, order-once}
 use Rattle.model.proofs.Limits.{CountsWithin}
-use Rattle.model.proofs.Reading.{Reads, counts-read}
 use Rattle.model.proofs.Loads.{load-magnitude}
 use Rattle.model.proofs.Widths.{Widths, entries-lt, widths}
 
@@ -222,28 +221,26 @@ fields-within b h tasks rules n r l =
       endCost = λ p. omega (arith, w .endCost p);
     }
 
--- a sheet that reads is within the limits of kind 1
-pub kind1-within : (b : List ℕ) → areBytes b ≡ true → Reads b → WithinLimits kind1Limits (decode b)
+-- a sheet that 12 does not refuse is within the limits of kind 1
+pub kind1-within : (b : List ℕ) → areBytes b ≡ true → CountsWithin (decode b) → WithinLimits kind1Limits (decode b)
 unfolding kind1Limits
-kind1-within b h r =
-    let n : CountsWithin (decode b) = counts-read b r in
-    fields-within b h maxTasks maxRules (n .tasks) (n .rules) (lit< tt)
+kind1-within b h n = fields-within b h maxTasks maxRules (n .tasks) (n .rules) (lit< tt)
 
 -- any sheet is within those of the widths
 pub within-widths : (b : List ℕ) → areBytes b ≡ true → WithinLimits widthLimits (decode b)
 unfolding widthLimits decode decodeBy
 within-widths b h = fields-within b h (2 ^ 16 - 1) (2 ^ 16 - 1) (omega (arith, entries-lt b h tasksBody)) (omega (arith, entries-lt b h rulesBody)) (lit< tt)
 
--- of a sheet that reads, every completion's cost from every point, every solution's cost and every cost to go is below 2 ^ 40
-module _ (b : List ℕ) (h : areBytes b ≡ true) (r : Reads b) where
+-- of a sheet that 12 does not refuse, every completion's cost from every point, every solution's cost and every cost to go is below 2 ^ 40
+module _ (b : List ℕ) (h : areBytes b ≡ true) (n : CountsWithin (decode b)) where
   pub cost-small : (K p : ℕ) (ds : List ℕ) → isCompletion (decode b) K ds ≡ true → cost (decode b) p ds < 2 ^ 40
-  cost-small K p ds c = lt-of-le-of-lt (cost-bound kind1Limits (decode b) (kind1-within b h r) K p ds c) kind1-sums
+  cost-small K p ds c = lt-of-le-of-lt (cost-bound kind1Limits (decode b) (kind1-within b h n) K p ds c) kind1-sums
 
   pub round-small : (s : ℕ) (ds : List ℕ) → isSolution (decode b) s ds ≡ true → roundCost (decode b) s ds < 2 ^ 40
-  round-small s ds c = lt-of-le-of-lt (round-bound kind1Limits (decode b) (kind1-within b h r) s ds c) kind1-sums
+  round-small s ds c = lt-of-le-of-lt (round-bound kind1Limits (decode b) (kind1-within b h n) s ds c) kind1-sums
 
   pub to-go-small : (K p : ℕ) → costToGo (decode b) K p < 2 ^ 40
-  to-go-small K p = lt-of-le-of-lt (to-go-bound kind1Limits (decode b) (kind1-within b h r) K p) kind1-sums
+  to-go-small K p = lt-of-le-of-lt (to-go-bound kind1Limits (decode b) (kind1-within b h n) K p) kind1-sums
 
 -- of any bytes, the cost of every step, and of every route through no more doors than a plan has, is below 2 ^ 64
 module _ (b : List ℕ) (h : areBytes b ≡ true) where

@@ -1,4 +1,4 @@
--- Demands 1 and 2 as the C interface shows them: by what a call returns and by what it leaves in the places that it was lent. Assumes nothing.
+-- The three demands as the C interface shows them: by what a call returns and by what it leaves in the places that it was lent. Assumes nothing.
 use mathlib.Core.Path.{_≡_, refl, sym, ap, _∙_}
 use mathlib.Core.Logic.{_⊎_, ⊎-elim, _↔_}
 use mathlib.Core.Bool.{true}
@@ -14,10 +14,13 @@ use Rattle.model.specs.SheetLayout.{decode}
 use Rattle.model.specs.Faults.{Counts, readSheet}
 use Rattle.model.specs.PlanLayout.{maxPlanDoors, planBytes, PlanRead, writePlan, readPlan}
 use Rattle.model.specs.Validating.{validate}
-use Rattle.model.proofs.Reading.{accepted-reads}
+use Rattle.model.specs.Planning.{plan}
+use Rattle.model.proofs.Reading.{Reads, accepted-reads}
 use Rattle.model.proofs.Passing.{Passes}
 use Rattle.model.proofs.Loads.{Light}
-use Rattle.model.proofs.Demands.{SheetNumber, demand-1, demand-2}
+use Rattle.model.proofs.PlanBytes.{read-with}
+use Rattle.model.proofs.Room.{gets-20, gets-21, gets-0}
+use Rattle.model.proofs.Demands.{SheetNumber, Lent, doorsOf, Cheapest, Demand3, demand-1, demand-2, demand-3}
 
 -- ---- what is returned
 
@@ -30,6 +33,10 @@ returned-0 (accepted x) h e = (x, refl)
 pub returned : {A : Type 0} (a : Answer A) → (status a ≡ 0 → ⊥) → a ≡ refused (status a)
 returned (refused r) n = refl
 returned (accepted x) n = absurd (n refl)
+
+-- so what returns a number above 0 was refused with it
+pub returned-refusal : {A : Type 0} (a : Answer A) (r : ℕ) → 0 < r → status a ≡ r → a ≡ refused r
+returned-refusal a r l e = returned a (λ z. omega arith) ∙ ap refused e
 
 sheet-number : (r : ℕ) → SheetNumber r → 0 < r
 sheet-number r h = omega (arith, h .0)
@@ -47,7 +54,7 @@ judging-returns b q r e = ⊎-elim (sheet-number r) (λ (h : (30 ≤ r) × (r �
 pub plan-reading-returns : (n lent : ℕ) (q : List ℕ) (r : ℕ) → readPlan n lent q ≡ refused r → 0 < r
 plan-reading-returns n lent q r e = either-number 12 30 r (omega arith) (omega arith) (demand-1 .reading-a-plan n lent q r e)
 
--- ---- demand 1, of the calls that there are
+-- ---- demand 1
 
 -- after a refusal every place holds what it held before
 pub left-alone : {A B : Type 0} (f : A → B) (a : Answer A) (before : B) → (status a ≡ 0 → ⊥) → placed f a before ≡ before
@@ -58,15 +65,26 @@ pub record Demand1Returned : Type 0 where
   pub reads-iff : (b : List ℕ) → (status (readSheet b) ≡ 0) ↔ (Passes b × Light (decode b) × ((ts : List ℕ) × (isAdmissible (decode b) ts ≡ true)))
   pub counts-left : (b : List ℕ) (t p : ℕ) → status (readSheet b) ≡ 0
       → (placed (λ (c : Counts). c .tasks) (readSheet b) t ≡ decode b .tasks) × (placed (λ (c : Counts). c .points) (readSheet b) p ≡ decode b .points)
+  -- planning returns 0 exactly if reading does and there is room for work and plan; for a sheet that reads it returns 20 exactly if there are fewer cells than needed,
+  -- and 21 exactly if there are cells enough, but fewer bytes than a plan has
+  pub plans-iff : (b cells buffer : List ℕ) → (status (plan b cells buffer .answer) ≡ 0)
+      ↔ ((status (readSheet b) ≡ 0) × (2 ^ decode b .tasks * decode b .points ≤ length cells) × (32 + 2 * decode b .tasks ≤ length buffer))
+  pub few-cells-iff : (b cells buffer : List ℕ) → status (readSheet b) ≡ 0 → (status (plan b cells buffer .answer) ≡ 20) ↔ (length cells < 2 ^ decode b .tasks * decode b .points)
+  pub few-bytes-iff : (b cells buffer : List ℕ) → status (readSheet b) ≡ 0
+      → (status (plan b cells buffer .answer) ≡ 21) ↔ ((2 ^ decode b .tasks * decode b .points ≤ length cells) × (length buffer < 32 + 2 * decode b .tasks))
   -- a call that does not return 0 returns one of its numbers
   pub reading : (b : List ℕ) → (status (readSheet b) ≡ 0 → ⊥) → SheetNumber (status (readSheet b))
   pub judging : (b q : List ℕ) → (status (validate b q) ≡ 0 → ⊥) → SheetNumber (status (validate b q)) ⊎ ((30 ≤ status (validate b q)) × (status (validate b q) ≤ 34))
   pub reading-a-plan : (n lent : ℕ) (q : List ℕ) → (status (readPlan n lent q) ≡ 0 → ⊥) → (status (readPlan n lent q) ≡ 12) ⊎ (status (readPlan n lent q) ≡ 30)
-  -- and writing then leaves every byte; what the other calls are lent are places, which `left-alone` speaks of
+  -- and planning then leaves every cell and every byte, and writing every byte; what a call is lent besides, as *cost for planning, are places, which `left-alone` speaks of
+  pub planning : (b cells buffer : List ℕ) → (status (plan b cells buffer .answer) ≡ 0 → ⊥)
+      → (SheetNumber (status (plan b cells buffer .answer)) ⊎ ((status (plan b cells buffer .answer) ≡ 20) ⊎ (status (plan b cells buffer .answer) ≡ 21)))
+      × (plan b cells buffer .cells ≡ cells) × (plan b cells buffer .bytes ≡ buffer)
   pub writing-a-plan : (n start : ℕ) (doors : List ℕ) (c : ℕ) (buffer : List ℕ) → (status (writePlan n start doors c buffer .answer) ≡ 0 → ⊥)
       → ((status (writePlan n start doors c buffer .answer) ≡ 12) ⊎ (status (writePlan n start doors c buffer .answer) ≡ 21)) × (writePlan n start doors c buffer .bytes ≡ buffer)
-  -- judging returns what reading returns, where that is not 0
-  pub reads-first : (b q : List ℕ) → (status (readSheet b) ≡ 0 → ⊥) → status (validate b q) ≡ status (readSheet b)
+  -- planning and judging return what reading returns, where that is not 0
+  pub reads-first : (b cells buffer q : List ℕ) → (status (readSheet b) ≡ 0 → ⊥)
+      → (status (plan b cells buffer .answer) ≡ status (readSheet b)) × (status (validate b q) ≡ status (readSheet b))
 
 -- what reading answered where it returned 0
 read-again : (b : List ℕ) → status (readSheet b) ≡ 0 → readSheet b ≡ accepted (record { tasks = decode b .tasks; points = decode b .points })
@@ -75,6 +93,18 @@ read-again b e =
     let r = returned-0 (readSheet b) (reading-returns b) e in
     r .1 ∙ sym (accepted-reads b _ (r .0) (r .1) .1)
 
+pub reads-sheet : (b : List ℕ) → status (readSheet b) ≡ 0 → Reads b
+unfolding readSheet
+reads-sheet b e = let r = returned-0 (readSheet b) (reading-returns b) e in accepted-reads b _ (r .0) (r .1) .0
+
+-- planning returns 0 only where reading does
+planned-reads : (b cells buffer : List ℕ) → status (plan b cells buffer .answer) ≡ 0 → status (readSheet b) ≡ 0
+planned-reads b cells buffer e = go (readSheet b) refl
+  where
+    go : (a : Answer Counts) → readSheet b ≡ a → status a ≡ 0
+    go (refused r) h = sym (ap status (demand-1 .reads-first b r h cells buffer [] .0)) ∙ e
+    go (accepted x) h = refl
+
 pub demand-1-returned : Demand1Returned
 demand-1-returned = record {
   reads-iff = λ b. (
@@ -82,11 +112,18 @@ demand-1-returned = record {
     (λ h. ap status (demand-1 .reads-iff b .1 h)),
   );
   counts-left = λ b t p e. rw (read-again b e) (refl, refl);
+  plans-iff = λ b cells buffer. (
+    (λ e. let r = planned-reads b cells buffer e in let room = gets-0 b cells buffer (reads-sheet b r) .0 e in (r, room .0, room .1)),
+    (λ h. gets-0 b cells buffer (reads-sheet b (h .0)) .1 (h .1, h .2)),
+  );
+  few-cells-iff = λ b cells buffer e. gets-20 b cells buffer (reads-sheet b e);
+  few-bytes-iff = λ b cells buffer e. gets-21 b cells buffer (reads-sheet b e);
   reading = λ b n. demand-1 .reading b _ (returned (readSheet b) n);
   judging = λ b q n. demand-1 .judging b q _ (returned (validate b q) n);
   reading-a-plan = λ n lent q k. demand-1 .reading-a-plan n lent q _ (returned (readPlan n lent q) k);
+  planning = λ b cells buffer n. demand-1 .planning b cells buffer _ (returned (plan b cells buffer .answer) n);
   writing-a-plan = λ n start doors c buffer k. demand-1 .writing-a-plan n start doors c buffer _ (returned (writePlan n start doors c buffer .answer) k);
-  reads-first = λ b q n. ap status (demand-1 .reads-first b _ (returned (readSheet b) n) [] [] q .1);
+  reads-first = λ b cells buffer q n. let r = demand-1 .reads-first b _ (returned (readSheet b) n) cells buffer q in (ap status (r .0), ap status (r .1));
 }
 
 -- ---- demand 2
@@ -129,3 +166,46 @@ demand-2-returned = record {
       let x = returned-0 (readPlan n (length doors) q) (plan-reading-returns n (length doors) q) e in
       rw (x .1) (demand-2 .read-then-written n (length doors) q (x .0) hq (x .1) buffer same);
 }
+
+-- ---- demand 3. Planning returns `status` of its answer, and leaves `.cells` in the cells, `.bytes` in the buffer, and `placed` of the cost in *cost
+
+-- the plan in the buffer, read with so many doors lent
+abbrev pub readBack : List ℕ → List ℕ → List ℕ → ℕ → Answer PlanRead
+readBack b cells buffer lent = readPlan (decode b .tasks) lent (take (32 + 2 * decode b .tasks) (plan b cells buffer .bytes))
+
+-- what planning returns and leaves where it does not return 17
+pub record CheapestReturned (b cells buffer : List ℕ) (before : ℕ) : Type 0 where
+  -- 0 is returned
+  pub returns : status (plan b cells buffer .answer) ≡ 0
+  -- in the buffer and in the cells is left what `Cheapest` says: the plan `written`, a solution with its cost, none cheaper, the first of equals; and every cell
+  pub leaves : Cheapest b cells buffer
+  -- *cost has the cost of that plan
+  pub cost-left : placed (λ (c : ℕ). c) (plan b cells buffer .answer) before ≡ leaves .written .cost
+  -- and its bytes, read wherever as many doors are lent, return 0 and leave its start, doors and cost
+  pub read-back : (start : ℕ) (doors : List ℕ) (c : ℕ) → decode b .tasks ≤ length doors
+      → (status (readBack b cells buffer (length doors)) ≡ 0)
+      × (placed (λ (x : PlanRead). x .start) (readBack b cells buffer (length doors)) start ≡ leaves .written .start)
+      × (take (decode b .tasks) (placed (λ (x : PlanRead). x .doors) (readBack b cells buffer (length doors)) doors) ≡ doorsOf b (leaves .written))
+      × (placed (λ (x : PlanRead). x .cost) (readBack b cells buffer (length doors)) c ≡ leaves .written .cost)
+
+-- for a sheet that passes 10 to 16, with room lent (`Lent`), whatever stood in the cells, in the buffer and in *cost before
+pub record Demand3Returned (b cells buffer : List ℕ) (before : ℕ) : Type 0 where
+  -- reading and planning return 17 exactly when no order of the tasks keeps every pair
+  pub reading-refuses-iff : (status (readSheet b) ≡ 17) ↔ ((ts : List ℕ) → isAdmissible (decode b) ts ≡ true → ⊥)
+  pub refuses-iff : (status (plan b cells buffer .answer) ≡ 17) ↔ ((ts : List ℕ) → isAdmissible (decode b) ts ≡ true → ⊥)
+  -- and otherwise planning returns 0 and leaves the cheapest plan
+  pub otherwise : (status (plan b cells buffer .answer) ≡ 17 → ⊥) → CheapestReturned b cells buffer before
+
+pub demand-3-returned : (b cells buffer : List ℕ) (before : ℕ) → Lent b cells buffer → Demand3Returned b cells buffer before
+demand-3-returned b cells buffer before L =
+    let D : Demand3 b cells buffer = demand-3 b cells buffer L in
+    record {
+      reading-refuses-iff = ((λ e. D .reading-refuses-iff .0 (returned-refusal (readSheet b) 17 (omega arith) e)), (λ h. ap status (D .reading-refuses-iff .1 h)));
+      refuses-iff = ((λ e. D .refuses-iff .0 (returned-refusal (plan b cells buffer .answer) 17 (omega arith) e)), (λ h. ap status (D .refuses-iff .1 h)));
+      otherwise = λ n. let C : Cheapest b cells buffer = D .otherwise (λ e. n (ap status e)) in record {
+        returns = ap status (C .answered);
+        leaves = C;
+        cost-left = ap (λ (x : Answer ℕ). placed (λ (c : ℕ). c) x before) (C .answered);
+        read-back = λ start doors c here. let r = read-with (decode b .tasks) maxPlanDoors (length doors) _ (C .written) (C .reads-as) here in rw (r .1) (refl, r .2, r .3, r .4);
+      };
+    }

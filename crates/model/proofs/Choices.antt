@@ -8,7 +8,7 @@ use Prim.Native.Nat.{ℕ, zero, suc, _+_, _<_, min}
 use native.Mathlib.Omega.{arith}
 use lib.Dec.{ltb}
 use borrow.Author.Tests.{ltb-true, ltb-false, lt-ltb, le-ltb}
-use Rattle.model.specs.Folds.{flatMapBelow, cheaper, firstLeast, least}
+use Rattle.model.specs.Folds.{flatMapBelow, passingBelow, cheaper, firstLeast, least}
 use Rattle.model.proofs.Tests.{tested}
 use Rattle.model.proofs.Lists.{All, AllSome, all-imply}
 
@@ -104,10 +104,6 @@ module _ {A : Type 0} (f h : A → ℕ) (c : ℕ) where
 -- costs that are equal at each element have the same first of least cost
 pub first-cong : {A : Type 0} (f g : A → ℕ) (xs : List A) → All (λ x. f x ≡ g x) xs → firstLeast f xs ≡ firstLeast g xs
 first-cong f g xs h = first-shift f g 0 xs (all-imply _ _ (λ x e. omega arith) xs h)
-
--- the numbers below n that pass the test, in their order
-abbrev pub passingBelow : ℕ → (ℕ → Bool) → List ℕ
-passingBelow n test = flatMapBelow n (λ i. cond (test i) (i ∷ []) [])
 
 -- where each part g i with able i has choice i for its first of least cost, and the other parts are empty
 module _ {A : Type 0} (f : A → ℕ) (g : ℕ → List A) (able : ℕ → Bool) (choice : ℕ → A) where

@@ -22,7 +22,7 @@ use Rattle.model.specs.Validating.{validate}
 use Rattle.model.specs.Examples.{sheetA}
 use Rattle.model.specs.Planning.{cellsNeeded, orNoOrder, planFor, carriedOut, plan}
 use Rattle.model.proofs.Acceptance.{reads-A}
-use Rattle.model.proofs.Reading.{refused≢accepted, accepted-value, Passed, Reads, reads-then, accepted-reads, refused-reads, refused-alike}
+use Rattle.model.proofs.Reading.{refused≢accepted, accepted-value, Passed, Reads, counts-read, reads-then, accepted-reads, refused-reads, refused-alike}
 use Rattle.model.proofs.Passing.{Passes, passes-iff}
 use Rattle.model.proofs.Loads.{Light, light, light-passes}
 use Rattle.model.proofs.Ranks.{RanksBefore}
@@ -168,7 +168,7 @@ unfolding readSheet
 demand-2 = record {
   accepted-iff = λ b q c N hb hq e.
       let R : Reads b = accepted-reads b _ N e .0 in
-      validate-iff b q c hq R (λ s ds h. lt-of-lt-of-le (round-small b hb R s ds h) (lit≤ tt));
+      validate-iff b q c hq R (λ s ds h. lt-of-lt-of-le (round-small b hb (counts-read b R) s ds h) (lit≤ tt));
   written-then-read = λ n start doors c buffer lent one few there here hs hd hc room.
       let w = written n start doors c buffer (tasks-fit n (length doors) one few there) (rw length-is room) in (
         record { start = start; doors = doorArray lent n (λ i. getD doors i 0); cost = c },
@@ -228,7 +228,7 @@ module _ (b cells buffer : List ℕ) (L : Lent b cells buffer) where
         let W : CountsWithin (decode b) = counts in
         let small = solution-fits (decode b) W (x .start) (x .doors) (solution (decode b) (x .start) (x .doors) solves) in
         read-what-was-written (decode b .tasks) maxPlanDoors (x .start) (x .doors) (planCost (decode b) x) (tasks-fit (decode b .tasks) maxPlanDoors (W .one-task) (W .tasks) (W .tasks)) (small .0) (small .1)
-        (lt-of-lt-of-le (round-small b (L .bytes) reads (x .start) (x .doors) solves) (lit≤ tt))
+        (lt-of-lt-of-le (round-small b (L .bytes) W (x .start) (x .doors) solves) (lit≤ tt))
 
     -- the cell of a list and a point is lent
     cell-lent : (K p : ℕ) → K < 2 ^ decode b .tasks → p < decode b .points → K * decode b .points + p < length cells

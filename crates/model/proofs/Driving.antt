@@ -4,24 +4,27 @@ use mathlib.Core.Bool.{true, false}
 use mathlib.Core.List.{List, [], _∷_, map, List·Memᴰ, List·Memᴰ·not-nil}
 use mathlib.Core.Option.{some}
 use Prim.Native.Nat.{ℕ, suc, _+_, _^_, _≤_, _<_}
+use native.Mathlib.Nat.{lt-of-le-of-lt}
 use native.Mathlib.Omega.{arith}
+use lib.Pow.{areBytes}
 use borrow.Author.Tests.{lt-ltb}
 use Rattle.model.specs.Folds.{least}
 use Rattle.model.specs.TaskList.{without, full, size}
 use Rattle.model.specs.Sheet.{Sheet}
 use Rattle.model.specs.Orders.{noOrder, canComeFirst}
 use Rattle.model.specs.Cost.{stepCost, cost}
-use Rattle.model.specs.Plans.{isCompletion, completions, costToGo, cheapestCompletion}
+use Rattle.model.specs.Plans.{firstDoors, isCompletion, completions, costToGo, cheapestCompletion}
+use Rattle.model.specs.SheetLayout.{decode}
 use Rattle.model.proofs.Tests.{and-both}
 use Rattle.model.proofs.Masks.{without-le, full-bit}
-use Rattle.model.proofs.Choices.{passingBelow}
 use Rattle.model.proofs.Process.{runs, toGo, through, bellman, FirstStep, first-step}
+use Rattle.model.proofs.Limits.{CountsWithin}
 use Rattle.model.proofs.Ranges.{InRange, Served}
 use Rattle.model.proofs.Completions.{Position, driving, completes-is, completions-are, open-is, to-go-is, cheapest-is}
 use Rattle.model.proofs.Existence.{part, part-within, admissible-is, order-driven}
 use Rattle.model.proofs.Enumerations.{has-order, completion-listed}
 use Rattle.model.proofs.Cheapest.{to-go-attained}
-use Rattle.model.proofs.Bounds.{Limits, sumLimit, WithinLimits, cost-bound}
+use Rattle.model.proofs.Bounds.{Limits, sumLimit, WithinLimits, cost-bound, kind1Limits, kind1-sums, kind1-within}
 
 -- what 14, 15 and 17 leave of a sheet
 pub record Plannable (S : Sheet) : Type 0 where
@@ -32,10 +35,6 @@ pub record Plannable (S : Sheet) : Type 0 where
 -- door d, and the cost to go from where it leads
 unfoldable pub throughDoor : Sheet → ℕ → ℕ → ℕ → ℕ
 throughDoor S K p d = stepCost S K p d + costToGo S (without K (S .task d)) (S .depart d)
-
--- the doors whose task can come first in K
-unfoldable pub firstDoors : Sheet → ℕ → List ℕ
-firstDoors S K = passingBelow (S .doors) (λ d. canComeFirst S K (S .task d))
 
 module _ (S : Sheet) (G : Plannable S) where
   -- every list has a completion
@@ -114,3 +113,8 @@ module _ (S : Sheet) (G : Plannable S) where
     -- so it is within the limits of a sum
     pub through-bound : (L : Limits) → WithinLimits L S → (d : ℕ) → d < S .doors → canComeFirst S K (S .task d) ≡ true → throughDoor S K p d ≤ sumLimit L
     through-bound L W d l e = let a = through-attained d l e in subst (λ (v : ℕ). v ≤ sumLimit L) (a .2) (cost-bound L S W K p (a .0) (a .1))
+
+-- of a sheet of kind 1 it is below 2 ^ 40, as each cost to go is (`to-go-small`, Bounds); nothing is asked of 16
+pub through-small : (b : List ℕ) → areBytes b ≡ true → CountsWithin (decode b) → Plannable (decode b) → (K p d : ℕ) → K < 2 ^ decode b .tasks → d < decode b .doors
+    → canComeFirst (decode b) K (decode b .task d) ≡ true → throughDoor (decode b) K p d < 2 ^ 40
+through-small b h n G K p d below l e = lt-of-le-of-lt (through-bound (decode b) G K p below kind1Limits (kind1-within b h n) d l e) kind1-sums

@@ -21,6 +21,7 @@ pub mod Passing
 pub mod FirstTask
 pub mod Completions
 pub mod Existence
+pub mod OpenAlong
 pub mod Enumerations
 pub mod NoOrder
 pub mod Cheapest
@@ -38,6 +39,7 @@ pub mod Arrays
 pub mod InHand
 pub mod Validating
 pub mod Planning
+pub mod Room
 pub mod Decimals
 pub mod Printing
 pub mod Meanings

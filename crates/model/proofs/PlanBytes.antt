@@ -181,6 +181,25 @@ write-what-was-read n lent q r b e =
     (plan-cong n (startIn q) (doorArray lent n (doorIn q)) (doorsIn n q) (costIn n q) (λ i l. array-at lent n (doorIn q) i h l ∙ sym (mapBelow-at n (doorIn q) i 0 l))
     ∙ well-formed-is n q b (e₂ .0))
 
+-- they read as the same plan wherever as many doors are lent
+pub read-with : (n lent more : ℕ) (q : List ℕ) (r : PlanRead) → readPlan n lent q ≡ accepted r → n ≤ more
+    → (x : PlanRead) × (readPlan n more q ≡ accepted x) × (x .start ≡ r .start) × (take n (x .doors) ≡ take n (r .doors)) × (x .cost ≡ r .cost)
+unfolding readPlan
+read-with n lent more q r e here =
+    let e₁ = passed (wrongTasks n lent) 12 _ r e in
+    let e₂ = passed (illFormed n q) 30 _ r (e₁ .1) in
+    let f = fitting n lent (e₁ .0) in
+    let v = accepted-value (e₂ .1) in (
+      record { start = startIn q; doors = doorArray more n (doorIn q); cost = costIn n q },
+      rw (tasks-fit n more (f .0) (f .1) here, e₂ .0),
+      ap (λ (x : PlanRead). x .start) v,
+      first more here ∙ sym (first lent (f .2)) ∙ ap (λ (x : PlanRead). take n (x .doors)) v,
+      ap (λ (x : PlanRead). x .cost) v,
+    )
+  where
+    first : (m : ℕ) → n ≤ m → take n (doorArray m n (doorIn q)) ≡ mapBelow n (doorIn q)
+    first m h = ap (take n) (array-cong m n (doorIn q) _ (λ i l. sym (mapBelow-at n (doorIn q) i 0 l))) ∙ array-front m n (mapBelow n (doorIn q)) h (length-mapBelow n (doorIn q))
+
 -- ---- writing into a buffer
 
 -- the plan stands at the front of the buffer, and the rest is as it was
@@ -201,6 +220,12 @@ unfolding writePlan bytesWritten
 written n s ds c buffer t l = let over = plan-over n s ds c buffer in rw (write-accepts n (length ds) (length buffer) t l) (refl, over .0, over .1)
 
 -- a buffer of just that length holds the plan and nothing else
+-- it is written over the front of the buffer
+pub written-over : (n s : ℕ) (ds : List ℕ) (c : ℕ) (buffer : List ℕ) → wrongTasks n (length ds) ≡ false → planLength n ≤ length buffer
+    → writePlan n s ds c buffer .bytes ≡ overwrite (planBytes n s ds c) buffer
+unfolding writePlan bytesWritten
+written-over n s ds c buffer t l = rw (write-accepts n (length ds) (length buffer) t l)
+
 pub written-whole : (n s : ℕ) (ds : List ℕ) (c : ℕ) (buffer : List ℕ) → wrongTasks n (length ds) ≡ false → length buffer ≡ planLength n → writePlan n s ds c buffer .bytes ≡ planBytes n s ds c
 unfolding writePlan bytesWritten overwrite
 written-whole n s ds c buffer t e = rw (write-accepts n (length ds) (length buffer) t (omega arith), length-plan n s ds c, drop-of-length-le buffer {i = planLength n} (omega arith)) (append-nil (planBytes n s ds c))

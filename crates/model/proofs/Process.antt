@@ -8,12 +8,12 @@ use Prim.Native.Nat.{ℕ, suc, _+_, _≤_, _<_}
 use native.Mathlib.Omega.{arith}
 use lib.Dec.{eqb, ltb}
 use borrow.Author.Tests.{eq-eqb, lt-ltb}
-use Rattle.model.specs.Folds.{flatMapBelow, listsBelow, keepIf, firstLeast, least}
+use Rattle.model.specs.Folds.{flatMapBelow, passingBelow, listsBelow, keepIf, firstLeast, least}
 use Rattle.model.proofs.Tests.{tested}
 use Rattle.model.proofs.Folds.{flat-cong, keep-flat, keep-cong, keep-none, keep-map}
 use Rattle.model.proofs.Lists.{All, all-flat}
 use Rattle.model.proofs.Scans.{Scanned, scan}
-use Rattle.model.proofs.Choices.{passingBelow, first-map, first-shift, first-cong, first-flat, first-some, costOf, least-is}
+use Rattle.model.proofs.Choices.{first-map, first-shift, first-cong, first-flat, first-some, costOf, least-is}
 
 pub record Process : Type 1 where
   pub State : Type 0

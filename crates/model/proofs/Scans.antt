@@ -8,9 +8,9 @@ use Prim.Native.Nat.{ℕ, zero, suc, _≤_, _<_}
 use native.Mathlib.Omega.{arith}
 use lib.Dec.{ltb}
 use borrow.Author.Tests.{ltb-true, ltb-false}
-use Rattle.model.specs.Folds.{cheaper, firstLeast}
+use Rattle.model.specs.Folds.{passingBelow, cheaper, firstLeast}
 use Rattle.model.proofs.Tests.{eq-or-lt, not-both}
-use Rattle.model.proofs.Choices.{passingBelow, first-append}
+use Rattle.model.proofs.Choices.{first-append}
 
 module _ (f : ℕ → ℕ) (able : ℕ → Bool) where
   -- c is the first of the numbers of least cost

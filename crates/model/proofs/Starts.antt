@@ -5,7 +5,7 @@ use mathlib.Core.List.{List, [], map}
 use mathlib.Core.Option.{Option, none, some, Option·map, Option·getD}
 use Prim.Native.Nat.{ℕ, _≤_, _<_}
 use borrow.Author.Tests.{lt-ltb}
-use Rattle.model.specs.Folds.{flatMapBelow, listsBelow, keepIf, firstLeast}
+use Rattle.model.specs.Folds.{flatMapBelow, passingBelow, listsBelow, keepIf, firstLeast}
 use Rattle.model.specs.TaskList.{full}
 use Rattle.model.specs.Sheet.{Sheet}
 use Rattle.model.specs.Cost.{cost}
@@ -13,7 +13,7 @@ use Rattle.model.specs.Plans.{isSolution, roundCost, planCost, plans, so
 use Rattle.model.proofs.Folds.{keep-flat, keep-map, keep-cong, flat-cong}
 use Rattle.model.proofs.Masks.{size-full}
 use Rattle.model.proofs.Lists.{all-flat}
-use Rattle.model.proofs.Choices.{passingBelow, first-some, first-map, first-flat, first-cong, costOf, least-is}
+use Rattle.model.proofs.Choices.{first-some, first-map, first-flat, first-cong, costOf, least-is}
 use Rattle.model.proofs.Scans.{Scanned, scan}
 use Rattle.model.proofs.Existence.{admissible-is}
 use Rattle.model.proofs.Driving.{Plannable, some-completion}
@@ -53,6 +53,10 @@ module _ (S : Sheet) (G : Plannable S) where
   unfolding planCost roundCost costToGo cheapestCompletion
   route-cost s = sym (least-is (cost S (S .startPoint s)) (completions S (full (S .tasks))) ∙ ap (costOf (cost S (S .startPoint s))) (route-is s))
 
+  route-doors : (s : ℕ) (ds : List ℕ) → cheapestCompletion S (full (S .tasks)) (S .startPoint s) ≡ some ds → routeFrom s ≡ ds
+  unfolding routeFrom
+  route-doors s ds q = ap (λ o. Option·getD o []) q
+
   -- each start's cost to go
   fromStart : ℕ → ℕ
   fromStart s = costToGo S (full (S .tasks)) (S .startPoint s)
@@ -86,3 +90,13 @@ module _ (S : Sheet) (G : Plannable S) where
         from-there = route-is s;
         is-cheapest = cheapest-by-start ∙ ap (Option·map (λ s. record { start = s; doors = routeFrom s })) e;
       }
+
+  -- the cheapest plan is that of the first start of least cost to go, through the cheapest completion from there, and costs as much
+  pub cheapest-from : (s : ℕ) (ds : List ℕ) → firstLeast (λ s. costToGo S (full (S .tasks)) (S .startPoint s)) (passingBelow (S .starts) (λ s. true)) ≡ some s
+      → cheapestCompletion S (full (S .tasks)) (S .startPoint s) ≡ some ds
+      → (cheapest S ≡ some (record { start = s; doors = ds })) × (planCost S (record { start = s; doors = ds }) ≡ costToGo S (full (S .tasks)) (S .startPoint s))
+  unfolding fromStart starts-in-order
+  cheapest-from s ds e q = (
+    cheapest-by-start ∙ ap (Option·map (λ s. record { start = s; doors = routeFrom s })) e ∙ ap (λ ds. some (record { start = s; doors = ds })) (route-doors s ds q),
+    ap (λ ds. planCost S (record { start = s; doors = ds })) (sym (route-doors s ds q)) ∙ route-cost s,
+  )

@@ -40,6 +40,10 @@ module _ {A : Type 0} where
   unfoldable pub mapBelow : ℕ → (ℕ → A) → List A
   mapBelow n f = flatMapBelow n (λ i. f i ∷ [])
 
+-- the numbers below n that pass the test, in their order
+abbrev pub passingBelow : ℕ → (ℕ → Bool) → List ℕ
+passingBelow n test = flatMapBelow n (λ i. cond (test i) (i ∷ []) [])
+
 -- all lists of k numbers below n, ordered by the first number in which two of them differ
 abbrev pub listsBelow : ℕ → ℕ → List (List ℕ)
 listsBelow n zero = [] ∷ []

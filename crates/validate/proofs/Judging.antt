@@ -21,16 +21,11 @@ use Rattle.model.proofs.Reading.{Reads, counts-read, accepted-value, accepted-r
 use Rattle.model.proofs.Loads.{light}
 use Rattle.model.proofs.PlanBytes.{length-doors}
 use Rattle.model.proofs.InHand.{in-hand-count, in-hand-cost, in-hand-doors}
-use Rattle.model.proofs.Calls.{returned-0, reading-returns}
 use Rattle.model.proofs.Walks.{take-map}
 use Rattle.cost.specs.Routes.{Costable}
 use Rattle.cost.proofs.Routes.{costable}
 
 -- ---- the sheet
-
-pub reads : (b : List ℕ) → status (readSheet b) ≡ 0 → Reads b
-unfolding readSheet
-reads b e = let r = returned-0 (readSheet b) (reading-returns b) e in accepted-reads b _ (r .0) (r .1) .0
 
 -- the reader's numbers are the sheet's
 pub read-counts : (b : List ℕ) {n p : ℕ} → accepted (record { tasks = n; points = p }) ≡ readSheet b → (status (readSheet b) ≡ 0) × (n ≡ decode b .tasks)

@@ -14,7 +14,8 @@ use Rattle.model.specs.PlanLayout.{maxPlanDoors}
 use Rattle.model.specs.PlanInHand.{PlanInHand}
 use Rattle.model.specs.Validating.{notInSheet, doneTwice}
 use Rattle.plan.specs.Answers.{handOf}
-use Rattle.validate.proofs.Judging.{reads, few-tasks, ill-formed, Held, hold, not-in-sheet, done-twice, wrong-order, wrong-cost, right-cost, can-cost}
+use Rattle.model.proofs.Calls.{reads-sheet}
+use Rattle.validate.proofs.Judging.{few-tasks, ill-formed, Held, hold, not-in-sheet, done-twice, wrong-order, wrong-cost, right-cost, can-cost}
 use Rattle.validate.proofs.validate_plan.Statement.{statement}
 use Rattle.validate.proofs.validate_plan.Tie as tie
 
@@ -43,7 +44,7 @@ module _ (c : tie.After-tasks-of) where
   held =
       let e1 = c .before .before .before .before in
       let pre = e1 .before .before .before .before .pre in
-      hold sheet plan (reads sheet (pre .0)) (pre .1) (sym (e1 .before .ill-formed .ensures) ∙ e1 .if1 .left) (c .before .before .before .start-in .ensures)
+      hold sheet plan (reads-sheet sheet (pre .0)) (pre .1) (sym (e1 .before .ill-formed .ensures) ∙ e1 .if1 .left) (c .before .before .before .start-in .ensures)
       (c .before .before .in-hand .ensures) (c .tasks-of .ensures)
 
   doors-fit : hand .count ≤ length (hand .doors)
@@ -80,7 +81,7 @@ ill-formed-requires : tie.Need-ill-formed-requires
 ill-formed-requires c κs = search needs
 
 returns : tie.Need-returns
-returns c = let pre = c .before .before .before .before .pre in ill-formed _ _ (reads _ (pre .0)) (pre .1) (sym (c .before .ill-formed .ensures) ∙ c .if1 .taken)
+returns c = let pre = c .before .before .before .before .pre in ill-formed _ _ (reads-sheet _ (pre .0)) (pre .1) (sym (c .before .ill-formed .ensures) ∙ c .if1 .taken)
 
 start-in-requires : tie.Need-start-in-requires
 start-in-requires c κs = search needs
