@@ -111,17 +111,17 @@ pub fn points(s: &[u8]) -> u16
 }
 
 // The places of the bodies behind the first, each where the one before ends.
-struct Places {
-    doors: u32,
-    starts: u32,
-    pairs: u32,
-    rules: u32,
-    points: u32,
-    distances: u32,
+pub struct Places {
+    pub doors: u32,
+    pub starts: u32,
+    pub pairs: u32,
+    pub rules: u32,
+    pub points: u32,
+    pub distances: u32,
 }
 
 impl Places {
-    fn of(s: &[u8]) -> Self
+    pub fn of(s: &[u8]) -> Self
         ensures { λ r. ⌜ r ≡ placesOf (now (s .entry)) ⌝ }
     {
         let doors_at = HEAD_BYTES + tasks(s) as u32 * TASK_BYTES;
