@@ -1,0 +1,74 @@
+-- The cost through a door, the least over the doors passed, and the cells of a row: what the loops of a row ask. Assumes nothing.
+use mathlib.Core.Path.{_≡_, refl, ap, _∙_}
+use mathlib.Core.List.{List}
+use Prim.Native.Nat.{ℕ, _+_, _*_, _^_, _≤_, _<_}
+use native.Mathlib.Numerals.{add-one}
+use native.Mathlib.Omega.{arith}
+use lib.ListN.{length, getD, set}
+use Rattle.model.specs.Sheet.{Sheet}
+use Rattle.model.specs.Folds.{mapBelow}
+use Rattle.model.specs.SheetLayout.{decode}
+use Rattle.model.proofs.Arrays.{Filled, one-filled, all-filled}
+use Rattle.view.specs.declared.View.{View}
+use Rattle.view.specs.Views.{Viewed}
+use Rattle.row.specs.Leasts.{largest, leastBelow, throughPoint, throughGathered, leastFrom, Gathered}
+
+-- ---- the cost through a door
+
+-- w is the distance that the code reads
+module _ (S : Sheet) (load p q part : ℕ) {w : ℕ} (e : w ≡ S .distance p q) where
+  pub through-is : w * load + part ≡ throughPoint S load p q part
+  unfolding throughPoint
+  through-is = rw e
+
+  pub through-fits : throughPoint S load p q part < 2 ^ 64 → w * load + part < 2 ^ 64
+  through-fits h = rw through-is h
+
+-- what the i-th gathered door asks, and its cost
+pub gathered-door : {b : List ℕ} {v : View} {load : ℕ} {arrivals parts : List ℕ} → Gathered b v load arrivals parts → (p i : ℕ) → p < decode b .points
+    → i < length parts → Viewed b v × (p < decode b .points) × (getD arrivals i 0 < decode b .points)
+    × (throughPoint (decode b) load p (getD arrivals i 0) (getD parts i 0) < 2 ^ 64)
+unfolding throughGathered
+gathered-door h p i l k = (h .view, l, h .arrival i k, h .fits p i l k)
+
+pub gathered-cost : (S : Sheet) (load : ℕ) (arrivals parts : List ℕ) (p i : ℕ) {c : ℕ} → c ≡ throughPoint S load p (getD arrivals i 0) (getD parts i 0)
+    → c ≡ throughGathered S load arrivals parts p i
+unfolding throughGathered
+gathered-cost S load arrivals parts p i e = e
+
+-- ---- the least so far
+
+-- the least of f i over the i passed is `best`
+pub record Running (f : ℕ → ℕ) (i best : ℕ) : Type 0 where
+  pub is : best ≡ leastBelow i f
+
+pub none-passed : (f : ℕ → ℕ) → Running f 0 largest
+none-passed f = record { is = refl }
+
+-- one more, which is lower, or is not
+module _ {f : ℕ → ℕ} {i best c : ℕ} (r : Running f i best) (e : c ≡ f i) where
+  pub next-lower : c < best → Running f (i + 1) c
+  next-lower h = record { is = rw add-one (omega arith) }
+
+  pub next-kept : best ≤ c → Running f (i + 1) best
+  next-kept h = record { is = rw add-one (omega arith) }
+
+pub all-passed : (S : Sheet) (load : ℕ) (arrivals parts : List ℕ) (p : ℕ) {i best : ℕ} → Running (throughGathered S load arrivals parts p) i best
+    → i ≡ length parts → best ≡ leastFrom S load arrivals parts p
+unfolding leastFrom
+all-passed S load arrivals parts p r e = r .is ∙ ap (λ (n : ℕ). leastBelow n (throughGathered S load arrivals parts p)) e
+
+-- ---- the cells of a row
+
+-- two cells more: x and y are what the code stores, and d and e the row after each
+pub two-filled : {f : ℕ → ℕ} {a b : List ℕ} {i : ℕ} → Filled f a b i → (x y : ℕ) (d e : List ℕ) → i + 1 < length b → x ≡ f i → y ≡ f (i + 1) → d ≡ set b i x
+    → e ≡ set d (i + 1) y → Filled f a e (i + 2)
+two-filled {f} {a} {b} {i} r x y d e l h k u v =
+    let s = one-filled r x d (omega arith) h u in
+    let w : i + 1 < length d = omega (arith, s .size, r .size) in
+    let n : i + 1 + 1 ≡ i + 2 = omega arith in
+    rw n at (one-filled s y e w k v)
+
+-- a row of as many cells as there are points
+pub all-points : {f : ℕ → ℕ} {a b : List ℕ} {i n : ℕ} → Filled f a b i → length b ≤ i → length a ≡ n → b ≡ mapBelow n f
+all-points {f} r l e = all-filled r l ∙ ap (λ (n : ℕ). mapBelow n f) e
