@@ -1,0 +1,217 @@
+-- The cells while the table is filled: none done, a row more, and all done; and what is shown by then. Assumes nothing.
+use mathlib.Core.Path.{_≡_, refl, sym, ap, ap₂, _∙_}
+use mathlib.Core.Logic.{_≢_, ⊎-elim}
+use mathlib.Core.Bool.{Bool, true, false, cond, _&&_, and-false, or-true}
+use mathlib.Core.List.{List, _++_}
+use Prim.Native.Nat.{ℕ, _+_, _-_, _*_, _/_, _%_, _^_, _≤_, _<_}
+use native.Mathlib.Nat.{le-div-iff-mul-le, div-lt-iff-lt-mul, zero-mul}
+use native.Mathlib.Omega.{arith}
+use lib.Arith.{digits-lt, digits-div, digits-mod}
+use lib.Dec.{ltb, eqb}
+use lib.ListN.{length, getD, take, drop, length-append, List·getD-append}
+use lib.Seq.{length-take-le, getD-take, getD-drop, getD-append-add, ext-getD}
+use borrow.Author.Tests.{ltb-true, ltb-false, lt-ltb, le-ltb, eqb-true, eqb-false, ne-eqb, le-leb}
+use Rattle.model.specs.Folds.{mapBelow}
+use Rattle.model.specs.Sheet.{Sheet}
+use Rattle.model.specs.Orders.{essential, pairsAllow}
+use Rattle.model.specs.Plans.{costToGo}
+use Rattle.model.specs.Bytes.{overwrite, overwriteAt}
+use Rattle.model.specs.Planning.{cellAfter, cellsAfter}
+use Rattle.model.proofs.Tests.{tested, same-test, or-neither}
+use Rattle.model.proofs.Folds.{length-mapBelow, mapBelow-at}
+use Rattle.model.proofs.Overwriting.{length-over, over-front}
+use Rattle.model.proofs.Ranges.{InRange}
+use Rattle.model.proofs.Completions.{to-go-none}
+use Rattle.table.specs.Cells.{cellBelow, cellsBelow, Shown}
+use Rattle.table.proofs.Parts.{map-cong-below}
+
+-- ---- an element of what was overwritten
+
+module _ (at : ℕ) (xs buf : List ℕ) (fits : at + length xs ≤ length buf) where
+  front : length (take at buf) ≡ at
+  front = length-take-le at buf (omega arith)
+
+  -- below the part that was written
+  pub over-below : (i : ℕ) → i < at → getD (overwriteAt at xs buf) i 0 ≡ getD buf i 0
+  unfolding overwriteAt
+  over-below i l = rw (le-leb (at + length xs) (length buf) fits)
+      (List·getD-append (take at buf ++ xs) _ 0 i (rw length-append (omega (arith, front)))
+      ∙ List·getD-append (take at buf) xs 0 i (omega (arith, front))
+      ∙ getD-take at buf i 0 l)
+
+  -- in it
+  pub over-in : (j : ℕ) → j < length xs → getD (overwriteAt at xs buf) (at + j) 0 ≡ getD xs j 0
+  unfolding overwriteAt
+  over-in j l = rw (le-leb (at + length xs) (length buf) fits)
+      (List·getD-append (take at buf ++ xs) _ 0 (at + j) (rw length-append (omega (arith, front)))
+      ∙ ap (λ (n : ℕ). getD (take at buf ++ xs) (n + j) 0) (sym front)
+      ∙ getD-append-add (take at buf) xs j 0)
+
+  -- and beyond it
+  pub over-beyond : (i : ℕ) → at + length xs ≤ i → getD (overwriteAt at xs buf) i 0 ≡ getD buf i 0
+  unfolding overwriteAt
+  over-beyond i l =
+      let m : ℕ = i - (at + length xs) in
+      let e : i ≡ length (take at buf ++ xs) + m = rw length-append (omega (arith, front)) in
+      rw (le-leb (at + length xs) (length buf) fits)
+      (ap (λ (n : ℕ). getD (take at buf ++ xs ++ drop (at + length xs) buf) n 0) e
+      ∙ getD-append-add (take at buf ++ xs) (drop (at + length xs) buf) m 0
+      ∙ getD-drop (at + length xs) buf m 0
+      ∙ ap (λ (n : ℕ). getD buf n 0) (omega arith))
+
+-- ---- one cell
+
+module _ (S : Sheet) where
+  -- the list of the cell is done with the next one just where it is done before, unless it is the next
+  cell-same : (k i x : ℕ) → i / S .points ≢ k → cellBelow S k i x ≡ cellBelow S (k + 1) i x
+  unfolding cellBelow
+  cell-same k i x n = ap (λ (t : Bool). cond (t && pairsAllow S (i / S .points)) (costToGo S (i / S .points) (i % S .points)) x) (same-test _ _
+      (λ e. let l = ltb-true (i / S .points) k e in lt-ltb (i / S .points) (k + 1) (omega arith))
+      (λ e. let l = ltb-true (i / S .points) (k + 1) e in lt-ltb (i / S .points) k (omega arith)))
+
+  -- of a list that the pairs do not allow it stays
+  cell-passed : (k i x : ℕ) → pairsAllow S (i / S .points) ≡ false → cellBelow S k i x ≡ x
+  unfolding cellBelow
+  cell-passed k i x a = rw (a, and-false)
+
+  -- of a list that is done, and that the pairs allow, it is the cost to go
+  cell-done : (k K p x : ℕ) → p < S .points → K < k → pairsAllow S K ≡ true → cellBelow S k (K * S .points + p) x ≡ costToGo S K p
+  unfolding cellBelow
+  cell-done k K p x point l a = rw (digits-div K point, digits-mod K point, lt-ltb K k l, a)
+
+  -- what was done before is done over
+  cell-again : (j k i x : ℕ) → j ≤ k → cellBelow S k i (cellBelow S j i x) ≡ cellBelow S k i x
+  unfolding cellBelow
+  cell-again j k i x l = ⊎-elim
+      (λ (w : (ltb (i / S .points) k && pairsAllow S (i / S .points)) ≡ true). rw w)
+      (λ (w : (ltb (i / S .points) k && pairsAllow S (i / S .points)) ≡ false). rw w (ap (λ (t : Bool). cond t (costToGo S (i / S .points) (i % S .points)) x) (earlier (ltb (i / S .points) k) refl w)))
+      (tested (ltb (i / S .points) k && pairsAllow S (i / S .points)))
+    where
+      earlier : (t : Bool) → ltb (i / S .points) k ≡ t → (t && pairsAllow S (i / S .points)) ≡ false → (ltb (i / S .points) j && pairsAllow S (i / S .points)) ≡ false
+      earlier true e a = rw (a, and-false)
+      earlier false e a = let b = ltb-false (i / S .points) k e in rw (le-ltb (i / S .points) j (omega arith))
+
+module _ (S : Sheet) (cells : List ℕ) where
+  cell-at : (k i : ℕ) → i < length cells → getD (cellsBelow S k cells) i 0 ≡ cellBelow S k i (getD cells i 0)
+  unfolding cellsBelow
+  cell-at k i l = mapBelow-at (length cells) _ i 0 l
+
+  -- ---- all cells
+
+  pub length-done : (k : ℕ) → length (cellsBelow S k cells) ≡ length cells
+  unfolding cellsBelow
+  length-done k = length-mapBelow (length cells) _
+
+  pub none-done : cellsBelow S 0 cells ≡ cells
+  unfolding cellBelow
+  none-done = ext-getD 0 _ _ (length-done 0) (λ i l. cell-at 0 i (rw length-done at l) ∙ rw (le-ltb (i / S .points) 0 (omega arith)))
+
+  pub all-done : cellsBelow S (2 ^ S .tasks) cells ≡ cellsAfter S cells
+  unfolding cellsBelow cellBelow cellsAfter cellAfter
+  all-done = refl
+
+  -- the row of the next list, written where it belongs
+  pub row-done : (k : ℕ) → 0 < S .points → (k + 1) * S .points ≤ length cells → pairsAllow S k ≡ true → (row : List ℕ) → row ≡ mapBelow (S .points) (costToGo S k)
+      → overwriteAt (k * S .points) row (cellsBelow S k cells) ≡ cellsBelow S (k + 1) cells
+  row-done k some room a row e = ext-getD 0 _ _ (length-over (k * S .points) row (cellsBelow S k cells) ∙ length-done k ∙ sym (length-done (k + 1)))
+      (λ i l. let m : i < length cells = rw (length-over, length-done) at l in one i m ∙ sym (cell-at (k + 1) i m))
+    where
+      wide : length row ≡ S .points
+      wide = ap length e ∙ length-mapBelow (S .points) (costToGo S k)
+
+      fits : k * S .points + length row ≤ length (cellsBelow S k cells)
+      fits = rw (wide, length-done) (omega arith)
+
+      one : (i : ℕ) → i < length cells → getD (overwriteAt (k * S .points) row (cellsBelow S k cells)) i 0 ≡ cellBelow S (k + 1) i (getD cells i 0)
+      one i m = ⊎-elim
+          (λ (w : ltb i (k * S .points) ≡ true).
+          let l : i < k * S .points = ltb-true i (k * S .points) w in
+          over-below (k * S .points) row (cellsBelow S k cells) fits i l ∙ cell-at k i m ∙ cell-same S k i _ (λ q. omega (arith, div-lt-iff-lt-mul some .1 l)))
+          (λ (w : ltb i (k * S .points) ≡ false). ⊎-elim
+          (λ (v : ltb i ((k + 1) * S .points) ≡ true).
+          let j : ℕ = i - k * S .points in
+          let lo : k * S .points ≤ i = ltb-false i (k * S .points) w in
+          let hi : i < (k + 1) * S .points = ltb-true i ((k + 1) * S .points) v in
+          let is : i ≡ k * S .points + j = omega arith in
+          let l : j < S .points = omega arith in
+          rw is (over-in (k * S .points) row (cellsBelow S k cells) fits j (rw wide l)
+          ∙ rw e (mapBelow-at (S .points) (costToGo S k) j 0 l) ∙ sym (cell-done S (k + 1) k j _ l (omega arith) a)))
+          (λ (v : ltb i ((k + 1) * S .points) ≡ false).
+          let lo : (k + 1) * S .points ≤ i = ltb-false i ((k + 1) * S .points) v in
+          over-beyond (k * S .points) row (cellsBelow S k cells) fits i (rw wide (omega arith)) ∙ cell-at k i m
+          ∙ cell-same S k i _ (λ q. omega (arith, le-div-iff-mul-le some .1 lo)))
+          (tested (ltb i ((k + 1) * S .points))))
+          (tested (ltb i (k * S .points)))
+
+  -- the next list is one that the pairs do not allow: it is passed over
+  pub row-passed : (k : ℕ) → pairsAllow S k ≡ false → cellsBelow S k cells ≡ cellsBelow S (k + 1) cells
+  row-passed k a = ext-getD 0 _ _ (length-done k ∙ sym (length-done (k + 1)))
+      (λ i l. let m : i < length cells = rw length-done at l in cell-at k i m ∙ one i (eqb (i / S .points) k) refl ∙ sym (cell-at (k + 1) i m))
+    where
+      one : (i : ℕ) (t : Bool) → eqb (i / S .points) k ≡ t → cellBelow S k i (getD cells i 0) ≡ cellBelow S (k + 1) i (getD cells i 0)
+      one i true e =
+          let n : pairsAllow S (i / S .points) ≡ false = ap (pairsAllow S) (eqb-true _ _ e) ∙ a in
+          cell-passed S k i _ n ∙ sym (cell-passed S (k + 1) i _ n)
+      one i false e = cell-same S k i _ (eqb-false _ _ e)
+
+  -- ---- what is shown
+
+  pub shown : (k : ℕ) → 0 < S .points → k * S .points ≤ length cells → Shown S k (cellsBelow S k cells)
+  shown k some room K p l a point =
+      cell-at k (K * S .points + p) (omega (arith, digits-lt l point)) ∙ cell-done S k K p _ point l a
+
+  pub shown-after : 2 ^ S .tasks * S .points ≤ length cells → 0 < S .points → Shown S (2 ^ S .tasks) (cellsAfter S cells)
+  shown-after room some = rw all-done at (shown (2 ^ S .tasks) some room)
+
+-- ---- the first row, and what follows it
+
+module _ (S : Sheet) (cells : List ℕ) where
+  -- lists done anew, from cells in which some of them are done
+  pub done-again : (j k : ℕ) → j ≤ k → cellsBelow S k (cellsBelow S j cells) ≡ cellsBelow S k cells
+  done-again j k l = ext-getD 0 _ _ (length-done S (cellsBelow S j cells) k ∙ length-done S cells j ∙ sym (length-done S cells k)) (λ i m.
+      let n : i < length (cellsBelow S j cells) = rw length-done at m in
+      let o : i < length cells = rw length-done at n in
+      cell-at S (cellsBelow S j cells) k i n ∙ ap (cellBelow S k i) (cell-at S cells j i o) ∙ cell-again S j k i (getD cells i 0) l ∙ sym (cell-at S cells k i o))
+
+  -- the end costs are the row of the empty list
+  pub ends-done : InRange S → {n : ℕ} {row : List ℕ} → 0 < S .points → S .points ≤ length cells → n ≡ S .points → row ≡ mapBelow (S .points) (S .endCost)
+      → row ++ drop n cells ≡ cellsBelow S 1 cells
+  unfolding overwrite pairsAllow
+  ends-done R {n} {row} some room e h =
+      let w : length row ≡ S .points = ap length h ∙ length-mapBelow (S .points) (S .endCost) in
+      ap (λ (m : ℕ). row ++ drop m cells) (e ∙ sym w)
+      ∙ sym (over-front row cells (rw w room))
+      ∙ ap₂ (λ (a : ℕ) (l : List ℕ). overwriteAt a row l) (sym (zero-mul (S .points))) (sym (none-done S cells))
+      ∙ row-done S cells 0 some (omega arith) refl row (h ∙ map-cong-below (S .points) _ _ (λ p l. sym (to-go-none S R p)))
+
+  -- X: the cells with the end costs written
+  module _ {X : List ℕ} (e : X ≡ cellsBelow S 1 cells) where
+    pub ends-stay : X ≡ cellsBelow S 1 X
+    ends-stay = e ∙ sym (done-again 1 1 (omega arith)) ∙ ap (cellsBelow S 1) (sym e)
+
+    pub as-many : length X ≡ length cells
+    as-many = ap length e ∙ length-done S cells 1
+
+    -- the lists done from there on are done from the beginning
+    pub from-ends : (k : ℕ) {l : List ℕ} → 1 ≤ k → l ≡ cellsBelow S k X → l ≡ cellsBelow S k cells
+    from-ends k some h = h ∙ ap (cellsBelow S k) e ∙ done-again 1 k some
+
+-- ---- a turn of the loop
+
+-- X: the cells where the loop began; l: the cells with the lists below k done
+module _ (S : Sheet) (X : List ℕ) (k : ℕ) {l : List ℕ} (h : l ≡ cellsBelow S k X) (some : 0 < S .points) (room : (k + 1) * S .points ≤ length X) where
+  pub known-so : Shown S k l
+  known-so = rw h (shown S X k some (omega (arith, room)))
+
+  pub room-so : (k + 1) * S .points ≤ length l
+  room-so = rw (h, length-done) room
+
+  -- an essential list, whose row was written
+  pub row-next : {new : List ℕ} → essential S k ≡ true → new ≡ overwriteAt (k * S .points) (mapBelow (S .points) (costToGo S k)) l → new ≡ cellsBelow S (k + 1) X
+  unfolding pairsAllow
+  row-next e q = q ∙ ap (overwriteAt (k * S .points) (mapBelow (S .points) (costToGo S k))) h ∙ row-done S X k some room (rw (e, or-true)) _ refl
+
+  -- a list that is neither essential nor empty
+  pub pass-next : essential S k ≡ false → 1 ≤ k → l ≡ cellsBelow S (k + 1) X
+  unfolding pairsAllow
+  pass-next e o = h ∙ row-passed S X k (or-neither (ne-eqb k 0 (λ z. omega arith)) e)

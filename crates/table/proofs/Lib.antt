@@ -1,0 +1,7 @@
+pub mod Parts
+pub mod Filling
+pub mod Places
+pub mod Minimums
+pub mod Bellman
+pub mod ListRows
+pub mod Receivers
