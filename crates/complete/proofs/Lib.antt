@@ -1,0 +1,4 @@
+pub mod NextDoor
+pub mod Finding
+pub mod Choosing
+pub mod Completing
