@@ -25,7 +25,7 @@ pub(crate) fn wrong_tasks(n: usize, lent: usize) -> bool
 }
 
 // The length of a plan of n doors.
-pub(crate) fn byte_length(n: u16) -> usize
+pub fn byte_length(n: u16) -> usize
     ensures { λ r. ⌜ r ≡ planLength n ⌝ }
 {
     DOORS_AT + 2 * n as usize + COST_BYTES

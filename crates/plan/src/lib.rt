@@ -9,7 +9,7 @@ use number::read_u16;
 use number::write_u16;
 use number::write_u64;
 
-mod layout;
+pub mod layout;
 
 // The most doors of a plan.
 pub const MAX_DOORS: usize = 12;

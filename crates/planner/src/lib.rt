@@ -1,0 +1,113 @@
+// Planning: the cheapest plan of a sheet, written as bytes, with the table of costs to go left in the cells.
+ghost use mathlib.Core.Path.{_≡_};
+ghost use mathlib.Core.Option.{some};
+ghost use Prim.Native.Nat.{_≤_, _<_};
+ghost use Rattle.model.specs.TaskList.{maxListed};
+ghost use Rattle.model.specs.Answer.{status};
+ghost use Rattle.model.specs.SheetLayout.{decode};
+ghost use Rattle.model.specs.Faults.{readSheet};
+ghost use Rattle.model.specs.Planning.{cellsNeeded, plan};
+ghost use Rattle.view.specs.Views.{Viewed};
+ghost use Rattle.planner.specs.Answers.{numberOf, answerOf};
+ghost use Rattle.planner.specs.Choosing.{startCost, firstStart, Startable};
+use sheet::Reading;
+use view::View;
+
+// Why there is no plan: the sheet's own faults first, then 20 and 21 in this order.
+pub enum Refusal {
+    Sheet(sheet::Fault),
+    FewCells,
+    ShortBuffer,
+}
+
+// What planning answers: the cost, or why not.
+pub enum Planning {
+    Planned(u64),
+    Refused(Refusal),
+}
+
+// Document 01's number of a refusal.
+pub fn number_of(r: Refusal) -> u32
+    ensures { λ n. ⌜ n ≡ numberOf r ⌝ }
+{
+    match r {
+        Refusal::Sheet(fault) => sheet::number_of(fault),
+        Refusal::FewCells => 20,
+        Refusal::ShortBuffer => 21,
+    }
+}
+
+// Plans the sheet s: fills the cells with the costs to go, and writes the cheapest plan to the front of the buffer. A refusal leaves both as they are.
+pub fn plan(s: &[u8], cells: &mut [u64], buf: &mut [u8]) -> Planning
+    ensures answer { λ r. ⌜ answerOf r ≡ plan (now (s .entry)) (now (cells .entry)) (now (buf .entry)) .answer ⌝ }
+    ensures cells { λ r. ⌜ now (cells .exit) ≡ plan (now (s .entry)) (now (cells .entry)) (now (buf .entry)) .cells ⌝ }
+    ensures bytes { λ r. ⌜ now (buf .exit) ≡ plan (now (s .entry)) (now (cells .entry)) (now (buf .entry)) .bytes ⌝ }
+{
+    let reading = sheet::read(s);
+    match reading {
+        Reading::Read(_) => plan_sheet(s, cells, buf),
+        Reading::Refused(fault) => Planning::Refused(Refusal::Sheet(fault)),
+    }
+}
+
+// How many cells a sheet of up to twelve tasks needs.
+fn cells_needed(s: &[u8], v: View) -> usize
+    requires { ⌜ Viewed (now s) v × (decode (now s) .tasks ≤ maxListed) ⌝ }
+    ensures { λ r. ⌜ r ≡ cellsNeeded (decode (now (s .entry))) ⌝ }
+{
+    tasklist::lists(v.tasks) as usize * v.points as usize
+}
+
+// What the whole round costs from start i, by the row of the full list.
+fn start_cost(s: &[u8], v: View, cells: &[u64], i: u16) -> u64
+    requires { ⌜ Startable (now s) v (now cells) × (i < decode (now s) .starts) ⌝ }
+    ensures { λ r. ⌜ r ≡ startCost (decode (now (s .entry))) (now (cells .entry)) i ⌝ }
+{
+    let from = tasklist::full(v.tasks) as usize * v.points as usize;
+    cells[from + view::start_point(s, v, i) as usize]
+}
+
+// The first of the starts from which the whole round costs least.
+fn first_start(s: &[u8], v: View, cells: &[u64]) -> u16
+    requires { ⌜ Startable (now s) v (now cells) ⌝ }
+    ensures { λ r. ⌜ some r ≡ firstStart (decode (now (s .entry))) (now (cells .entry)) ⌝ }
+{
+    let starts = v.starts;
+    let mut best: u16 = 0;
+    let mut least = start_cost(s, v, cells, 0);
+    let mut i: u16 = 1;
+    while i < starts {
+        let c = start_cost(s, v, cells, i);
+        if c < least {
+            best = i;
+            least = c;
+        }
+        i = i + 1;
+    }
+    best
+}
+
+// The same as `plan` for a sheet that reads: 20 and 21 are tested before anything is touched.
+fn plan_sheet(s: &[u8], cells: &mut [u64], buf: &mut [u8]) -> Planning
+    requires { ⌜ status (readSheet (now s)) ≡ 0 ⌝ }
+    ensures answer { λ r. ⌜ answerOf r ≡ plan (now (s .entry)) (now (cells .entry)) (now (buf .entry)) .answer ⌝ }
+    ensures cells { λ r. ⌜ now (cells .exit) ≡ plan (now (s .entry)) (now (cells .entry)) (now (buf .entry)) .cells ⌝ }
+    ensures bytes { λ r. ⌜ now (buf .exit) ≡ plan (now (s .entry)) (now (cells .entry)) (now (buf .entry)) .bytes ⌝ }
+{
+    let v = View::of(s);
+    let few = cells.len() < cells_needed(s, v);
+    let short = buf.len() < plan::layout::byte_length(v.tasks);
+    if few {
+        return Planning::Refused(Refusal::FewCells);
+    }
+    if short {
+        return Planning::Refused(Refusal::ShortBuffer);
+    }
+    table::fill(s, v, cells);
+    let start = first_start(s, v, cells);
+    let from = view::start_point(s, v, start);
+    let x = complete::complete(s, v, from, tasklist::full(v.tasks), cells);
+    let doors = x.doors;
+    plan::write(v.tasks as usize, start, &doors, x.cost, buf);
+    Planning::Planned(x.cost)
+}
