@@ -5,8 +5,10 @@ ghost use lib.ListN.{length};
 ghost use Rattle.model.specs.Answer.{status, placed};
 ghost use Rattle.model.specs.Faults.{Counts, readSheet};
 ghost use Rattle.model.specs.PlanLayout.{writePlan, PlanRead, readPlan};
+ghost use Rattle.model.specs.Planning.{plan};
 ghost use Rattle.model.specs.Validating.{validate};
 use plan::Writing;
+use planner::Planning;
 use sheet::Reading;
 use validate::Validation;
 
@@ -28,6 +30,29 @@ pub extern "C" fn vanplan_read(sheet: &[u8], tasks: &mut u64, points: &mut u64) 
             OK
         }
         Reading::Refused(fault) => sheet::number_of(fault),
+    }
+}
+
+// Plans a sheet: the costs to go in the cells, the cheapest plan at the front of the buffer, and its cost.
+#[no_mangle]
+pub extern "C" fn vanplan_plan(
+    sheet: &[u8],
+    cells: &mut [u64],
+    buf: &mut [u8],
+    cost: &mut u64,
+) -> u32
+    ensures returned { λ r. ⌜ r ≡ status (plan (now (sheet .entry)) (now (cells .entry)) (now (buf .entry)) .answer) ⌝ }
+    ensures cells { λ r. ⌜ now (cells .exit) ≡ plan (now (sheet .entry)) (now (cells .entry)) (now (buf .entry)) .cells ⌝ }
+    ensures bytes { λ r. ⌜ now (buf .exit) ≡ plan (now (sheet .entry)) (now (cells .entry)) (now (buf .entry)) .bytes ⌝ }
+    ensures cost { λ r. ⌜ now (cost .exit) ≡ placed (λ (c : ℕ). c) (plan (now (sheet .entry)) (now (cells .entry)) (now (buf .entry)) .answer) (now (cost .entry)) ⌝ }
+{
+    let planning = planner::plan(sheet, cells, buf);
+    match planning {
+        Planning::Planned(least) => {
+            *cost = least;
+            OK
+        }
+        Planning::Refused(refusal) => planner::number_of(refusal),
     }
 }
 
