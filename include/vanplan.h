@@ -34,6 +34,7 @@ enum vanplan_refusal {
     VANPLAN_NO_ORDER = 17,      /* no order of the tasks keeps every pair */
 
     /* of the room for a plan */
+    VANPLAN_FEW_CELLS = 20,    /* fewer than 2^N times P work cells */
     VANPLAN_SHORT_BUFFER = 21, /* the buffer is shorter than 32 + 2 N bytes */
 
     /* of a plan */
@@ -78,6 +79,17 @@ uint32_t vanplan_read_plan(size_t n, const uint8_t *bytes, size_t len, uint16_t 
  * 0: the plan does every task once and keeps every pair, and *cost is its cost, which is the stated one. It may be
  * dearer than need be. */
 uint32_t vanplan_validate(const uint8_t *sheet, size_t len, const uint8_t *plan, size_t plan_len, uint64_t *cost);
+
+/* Plans a task sheet of len bytes, with ncells work cells and a buffer of plan_len bytes for the plan. Refused: 10 to
+ * 17 for the sheet, as vanplan_read does, then 20 and 21.
+ * 0: the first 32 + 2 N bytes of plan are the cheapest plan, and *cost is its cost. Of plans of equal cost it is the
+ * first by start number, then by first door, second door and so on. The bytes of plan from there on are as they were.
+ * A list of tasks is a number K below 2^N in which bit j stands for task j. For every list that has the receiver of
+ * each pair whose sender it has, the empty list too, and for every point p, cells[K * P + p] is the cost to finish:
+ * the least that the rest of a round costs where the van stands at p and the tasks of K are open. All other cells are
+ * as they were. Nothing of this depends on what cells and plan held before. */
+uint32_t vanplan_plan(const uint8_t *sheet, size_t len, uint64_t *cells, size_t ncells, uint8_t *plan, size_t plan_len,
+                      uint64_t *cost);
 
 #ifdef __cplusplus
 }

@@ -39,4 +39,17 @@ extern "C" {
         plan_len: usize,
         cost: *mut u64,
     ) -> u32;
+
+    /// Plans the sheet of `len` bytes. Returns 0 and writes the cost to finish to the cells of the lists that the pairs
+    /// allow, the cheapest plan to the first 32 + 2 N bytes at `plan`, and its cost, or returns a number from 10 to 17,
+    /// 20 or 21 and writes nothing.
+    pub fn vanplan_plan(
+        sheet: *const u8,
+        len: usize,
+        cells: *mut u64,
+        ncells: usize,
+        plan: *mut u8,
+        plan_len: usize,
+        cost: *mut u64,
+    ) -> u32;
 }

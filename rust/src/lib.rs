@@ -16,11 +16,13 @@
 
 mod ffi;
 mod plan;
+mod planning;
 mod read;
 mod refusal;
 mod validate;
 
 pub use plan::{read_plan, read_plan_into, write_plan, write_plan_into, Stated};
+pub use planning::{plan, plan_into, Planned};
 pub use read::{read, read_into, Counts};
 pub use refusal::{Refusal, ACCEPTED};
 pub use validate::{validate, validate_into};

@@ -31,6 +31,8 @@ impl Refusal {
     pub const TOO_LIGHT: Refusal = Refusal(16);
     /// 17: no order of the tasks keeps every pair.
     pub const NO_ORDER: Refusal = Refusal(17);
+    /// 20: fewer work cells than needed, which are 2^N times P.
+    pub const FEW_CELLS: Refusal = Refusal(20);
     /// 21: plan buffer shorter than 32 + 2N.
     pub const SHORT_BUFFER: Refusal = Refusal(21);
     /// 30: the plan's length or any byte before 22 not as laid out for this N.
@@ -59,6 +61,7 @@ impl Refusal {
             Refusal::NO_DOOR => "some task has no door",
             Refusal::TOO_LIGHT => "E plus all negative w is below zero",
             Refusal::NO_ORDER => "no order of the tasks keeps every pair",
+            Refusal::FEW_CELLS => "fewer work cells than needed",
             Refusal::SHORT_BUFFER => "plan buffer shorter than 32 + 2N",
             Refusal::ILL_FORMED => {
                 "the plan's length or any byte before 22 not as laid out for this N"

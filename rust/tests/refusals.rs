@@ -10,7 +10,7 @@ macro_rules! row {
 }
 
 /// The rows that the calls of this package can answer with.
-const TABLE: [(u32, Refusal, &str, &str); 14] = [
+const TABLE: [(u32, Refusal, &str, &str); 15] = [
     row!(10, TOO_SHORT, "sheet shorter than 46 bytes"),
     row!(11, WRONG_KIND, "kind not 1"),
     row!(12, WRONG_ENTRIES, "a number of entries outside the table"),
@@ -23,6 +23,7 @@ const TABLE: [(u32, Refusal, &str, &str); 14] = [
     row!(15, NO_DOOR, "some task has no door"),
     row!(16, TOO_LIGHT, "E plus all negative w is below zero"),
     row!(17, NO_ORDER, "no order of the tasks keeps every pair"),
+    row!(20, FEW_CELLS, "fewer work cells than needed"),
     row!(21, SHORT_BUFFER, "plan buffer shorter than 32 + 2N"),
     row!(
         30,
@@ -37,7 +38,7 @@ const TABLE: [(u32, Refusal, &str, &str); 14] = [
 
 #[test]
 fn every_number_has_its_name_and_words() {
-    let of_a_plan = [21].into_iter().chain(30..=34);
+    let of_a_plan = [20, 21].into_iter().chain(30..=34);
     assert!(
         (10..=17).chain(of_a_plan).eq(TABLE.iter().map(|row| row.0)),
         "a number is left out"

@@ -139,3 +139,26 @@ pub fn plain(entries: Entries) -> Sheet {
         distances: vec![5; entries.distances],
     }
 }
+
+/// The cost of doing the first twelve doors of `largest`, between 2^38 and 2^39.
+pub const GREATEST: u64 = 412_307_619_885;
+
+/// The longest sheet with every number at its largest: each rule applies wherever its door is done.
+pub fn largest() -> Sheet {
+    let mut sheet = plain(MOST);
+    sheet.end_load = u16::MAX;
+    sheet.tasks.fill(i16::MAX);
+    sheet.points.fill(u32::MAX);
+    sheet.distances.fill(u16::MAX);
+    sheet.starts.fill(63);
+    for (i, door) in sheet.doors.iter_mut().enumerate() {
+        (door.arrival, door.departure) = (i as u16, 63 - i as u16);
+        door.work = u32::MAX;
+    }
+    for (i, rule) in sheet.rules.iter_mut().enumerate() {
+        rule.door = i as u16 % 12;
+        rule.watched = 0xfff;
+        rule.charge = u32::MAX;
+    }
+    sheet
+}

@@ -29,6 +29,16 @@ extern "C" {
         plan_len: usize,
         cost: *mut u64,
     ) -> u32;
+
+    pub fn vanplan_plan(
+        sheet: *const u8,
+        len: usize,
+        cells: *mut u64,
+        ncells: usize,
+        plan: *mut u8,
+        plan_len: usize,
+        cost: *mut u64,
+    ) -> u32;
 }
 
 /// A pointer that no byte stands behind, for a length of 0; it is not NULL, which the header does not allow.

@@ -96,7 +96,14 @@ fn stands_backwards(driven: &[Option<u16>], (sender, receiver): (u16, u16)) -> b
 
 /// The cost of a round, in kilogram decametres; nothing if the start or a door is not in the sheet.
 pub fn cost(sheet: &Sheet, start: u16, doors: &[u16]) -> Option<i128> {
-    let mut last_point = *sheet.starts.get(usize::from(start))?;
+    let first_point = *sheet.starts.get(usize::from(start))?;
+    cost_from(sheet, first_point, doors)
+}
+
+/// The cost of these doors with this point, which is in the sheet, as the first departure point. The tasks of the doors
+/// are open at first, and those of all others are done.
+pub fn cost_from(sheet: &Sheet, point: u16, doors: &[u16]) -> Option<i128> {
+    let mut last_point = point;
     let known = |&door: &u16| sheet.doors.get(usize::from(door));
     let driven: Vec<&Door> = doors.iter().map(known).collect::<Option<_>>()?;
     let mut sum = 0;

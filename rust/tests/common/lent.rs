@@ -9,6 +9,7 @@ use std::slice;
 pub trait Number: Copy + PartialEq + Debug {}
 impl Number for u8 {}
 impl Number for u16 {}
+impl Number for u64 {}
 
 /// Elements before a lent list and behind it; odd, so that bytes are lent at an odd address.
 const MARGIN: usize = 9;

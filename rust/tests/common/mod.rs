@@ -1,5 +1,5 @@
-//! What the tests share: sheets and plans made in Rust, a reading and a judging of them written from document 01 alone,
-//! and the comparison of readings.
+//! What the tests share: sheets and plans made in Rust, a reading, a judging and a planning of them written from
+//! document 01 alone, and the comparison of readings.
 
 // Every test program covers its own calls, and none of them uses all of this.
 #![allow(dead_code)]
@@ -8,6 +8,7 @@ pub mod check;
 pub mod corrupt;
 pub mod examples;
 pub mod faulty;
+pub mod finishing;
 pub mod interface;
 pub mod judging;
 pub mod layout;
@@ -16,6 +17,7 @@ pub mod orders;
 pub mod plan;
 pub mod reading;
 pub mod rng;
+pub mod rounds;
 pub mod sheet;
 pub mod tally;
 pub mod valid;

@@ -127,3 +127,24 @@ fn rule(rng: &mut Rng, n: usize, doors: usize) -> Rule {
         charge: rng.u32(),
     }
 }
+
+/// Sets load changes to -3 to 3, the end load to little more than needed, and every other number that a cost is made of
+/// to one below the limit.
+pub fn make_small(rng: &mut Rng, sheet: &mut Sheet, limit: usize) {
+    for w in &mut sheet.tasks {
+        *w = rng.below(7) as i16 - 3;
+    }
+    sheet.end_load = sheet.picked_up() as u16 + rng.below(4) as u16;
+    for door in &mut sheet.doors {
+        door.work = rng.below(limit) as u32;
+    }
+    for rule in &mut sheet.rules {
+        rule.charge = rng.below(limit) as u32;
+    }
+    for end_cost in &mut sheet.points {
+        *end_cost = rng.below(limit) as u32;
+    }
+    for distance in &mut sheet.distances {
+        *distance = rng.below(limit) as u16;
+    }
+}

@@ -7,7 +7,7 @@ use crate::common::plan::Plan;
 use crate::common::rng::Rng;
 use crate::common::sheet::Sheet;
 use crate::common::tally::Times;
-use crate::common::valid::{valid, Size};
+use crate::common::valid::{make_small, valid, Size};
 
 /// Few doors and starts: every plan is tried.
 fn size(tasks: usize) -> Size {
@@ -29,28 +29,9 @@ fn small_sheet(rng: &mut Rng, tasks: usize) -> Sheet {
         rule.least = rng.between(1, tasks + 1) as u16;
     }
     if !rng.one_in(3) {
-        make_small(rng, &mut sheet);
+        make_small(rng, &mut sheet, 4);
     }
     sheet
-}
-
-fn make_small(rng: &mut Rng, sheet: &mut Sheet) {
-    for w in &mut sheet.tasks {
-        *w = rng.below(7) as i16 - 3;
-    }
-    sheet.end_load = sheet.picked_up() as u16 + rng.below(4) as u16;
-    for door in &mut sheet.doors {
-        door.work = rng.below(4) as u32;
-    }
-    for rule in &mut sheet.rules {
-        rule.charge = rng.below(4) as u32;
-    }
-    for end_cost in &mut sheet.points {
-        *end_cost = rng.below(4) as u32;
-    }
-    for distance in &mut sheet.distances {
-        *distance = rng.below(4) as u16;
-    }
 }
 
 /// Every sequence of so many numbers, each from 0 to `limit`.

@@ -2,36 +2,13 @@
 
 use super::calls::{expect, Judged};
 use super::plans::{solution, with_its_cost};
-use crate::common::examples::{plain, Entries, MOST};
+use crate::common::examples::{largest, plain, Entries, GREATEST, MOST};
 use crate::common::judging::cost;
 use crate::common::plan::Plan;
 use crate::common::rng::Rng;
 use crate::common::sheet::Sheet;
 use crate::common::tally::Times;
 use crate::common::valid::{valid, Size, ANY};
-
-/// The cost with every number at its largest, between 2^38 and 2^39.
-const GREATEST: u64 = 412_307_619_885;
-
-/// The longest sheet with every number at its largest: each rule applies wherever its door is done.
-fn largest() -> Sheet {
-    let mut sheet = plain(MOST);
-    sheet.end_load = u16::MAX;
-    sheet.tasks.fill(i16::MAX);
-    sheet.points.fill(u32::MAX);
-    sheet.distances.fill(u16::MAX);
-    sheet.starts.fill(63);
-    for (i, door) in sheet.doors.iter_mut().enumerate() {
-        (door.arrival, door.departure) = (i as u16, 63 - i as u16);
-        door.work = u32::MAX;
-    }
-    for (i, rule) in sheet.rules.iter_mut().enumerate() {
-        rule.door = i as u16 % 12;
-        rule.watched = 0xfff;
-        rule.charge = u32::MAX;
-    }
-    sheet
-}
 
 fn in_sheet_order(sheet: &Sheet) -> Plan {
     let doors: Vec<u16> = (0..sheet.tasks.len() as u16).collect();

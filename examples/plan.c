@@ -1,0 +1,70 @@
+/* Plans a task sheet from standard input, writes the plan to a file, and prints its cost, its start and its doors, or
+ * the number of the refusal.
+ *
+ *     cc -I include examples/plan.c target/staticlib/libvanplan.a -o target/plan
+ *     target/plan target/new.plan < examples/a.sheet
+ */
+#include <inttypes.h>
+#include <stdio.h>
+#include <stdlib.h>
+
+#include "vanplan.h"
+
+/* The longest sheet has 9,638 bytes; one byte more shows that the input is longer. */
+static uint8_t sheet[9639];
+/* Room for the longest plan. */
+static uint8_t plan[56];
+static uint16_t doors[12];
+
+static int refuse(uint32_t number)
+{
+    printf("refused %" PRIu32 "\n", number);
+    return 1;
+}
+
+int main(int argc, char **argv)
+{
+    uint64_t tasks, points, cost, *cells;
+    size_t n, i, len, ncells, plan_len;
+    uint16_t start;
+    uint32_t refused;
+    FILE *file;
+
+    if (argc != 2) {
+        fprintf(stderr, "usage: %s PLAN < SHEET\n", argv[0]);
+        return 2;
+    }
+    len = fread(sheet, 1, sizeof sheet, stdin);
+    if (ferror(stdin)) {
+        perror("standard input");
+        return 2;
+    }
+    /* The sheet tells how many cells are needed: 2 MiB at most. */
+    refused = vanplan_read(sheet, len, &tasks, &points);
+    if (refused)
+        return refuse(refused);
+    n = (size_t)tasks;
+    plan_len = 32 + 2 * n;
+    ncells = ((size_t)1 << n) * (size_t)points;
+    cells = malloc(ncells * sizeof *cells);
+    if (!cells) {
+        perror("cells");
+        return 2;
+    }
+    refused = vanplan_plan(sheet, len, cells, ncells, plan, plan_len, &cost);
+    free(cells);
+    if (!refused)
+        refused = vanplan_read_plan(n, plan, plan_len, &start, doors, 12, &cost);
+    if (refused)
+        return refuse(refused);
+    file = fopen(argv[1], "wb");
+    if (!file || fwrite(plan, 1, plan_len, file) != plan_len || fclose(file)) {
+        perror(argv[1]);
+        return 2;
+    }
+    printf("cost %" PRIu64 " start %" PRIu16 " doors", cost, start);
+    for (i = 0; i < n; i++)
+        printf(" %" PRIu16, doors[i]);
+    printf("\n");
+    return 0;
+}

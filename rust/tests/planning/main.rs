@@ -1,0 +1,16 @@
+//! Planning: the product against the plain enumeration of `common`, everything lent included, and for large sheets
+//! against a recursion that is compared with the enumeration.
+
+#[path = "../common/mod.rs"]
+mod common;
+
+mod calls;
+mod damage;
+mod extremes;
+mod large;
+mod lent;
+mod noise;
+mod sheet_a;
+mod sheets;
+mod small;
+mod support;

@@ -1,0 +1,141 @@
+//! Sheet A of document 01 and its neighbours, with the numbers that the document gives.
+
+use super::calls::{check_own_room, expect, Room};
+use super::sheets::due;
+use crate::common::examples::{sheet_a, sheet_a_with_pairs, sheet_a_with_rule, sheet_a_with_tasks};
+use crate::common::finishing::recurse;
+use crate::common::plan::{plan_len, Plan};
+use crate::common::rng::Rng;
+use crate::common::sheet::Sheet;
+use vanplan::{plan_into, read, Refusal};
+
+/// The plan of A, hexadecimal, as in the document.
+const PLAN: &str =
+    "02 00 00 00 01 00 16 00 01 00 02 00 18 00 02 00 03 00 1c 00 01 00 00 00 00 00 01 00 \
+                    5c 00 00 00 00 00 00 00";
+
+/// What stands in each cell, and in each byte, before a call.
+const CELL: u64 = 0xdead_beef_0bad_f00d;
+const BYTE: u8 = 0xa5;
+
+/// Plans with twelve cells and 36 bytes, and returns the number and all that was lent.
+fn planned(sheet: &Sheet) -> (u32, [u64; 12], [u8; 36], u64) {
+    let (mut cells, mut plan, mut cost) = ([CELL; 12], [BYTE; 36], CELL);
+    let number = plan_into(&sheet.encode(), &mut cells, &mut plan, &mut cost);
+    (number, cells, plan, cost)
+}
+
+/// The sheet is planned with these doors at this cost; returns the cells.
+fn plans(sheet: &Sheet, doors: [u16; 2], due_cost: u64) -> [u64; 12] {
+    let (number, cells, plan, cost) = planned(sheet);
+    assert_eq!((number, cost), (0, due_cost));
+    assert_eq!(plan[..], Plan::of(0, &doors, due_cost).encode());
+    cells
+}
+
+/// The sheet is refused with this number, and nothing was written.
+fn refused(sheet: &Sheet, number: u32) {
+    assert_eq!(planned(sheet), (number, [CELL; 12], [BYTE; 36], CELL));
+}
+
+#[test]
+fn a_planned() {
+    let cells = plans(&sheet_a(), [0, 1], 92);
+    assert_eq!((cells[5], cells[7], cells[9]), (84, 64, 92));
+    assert_eq!(cells, [0, 20, 30, 54, 24, 84, 57, 64, 36, 92, 68, 90]);
+}
+
+#[test]
+fn the_plan_of_a_byte_by_byte() {
+    let (_, _, plan, _) = planned(&sheet_a());
+    let written: Vec<String> = plan.iter().map(|byte| format!("{byte:02x}")).collect();
+    assert_eq!(written.join(" "), PLAN);
+    let example = include_bytes!("../../../examples/a.plan");
+    assert_eq!(plan[..], example[..]);
+}
+
+#[test]
+fn a_with_pairs() {
+    let cells = plans(&sheet_a_with_pairs(&[(1, 0)]), [1, 0], 126);
+    assert_eq!(cells[6..9], [CELL; 3]);
+    assert_eq!(cells[..6], [0, 20, 30, 54, 24, 84]);
+    assert_eq!(cells[9..], [126, 138, 90]);
+    let cells = plans(&sheet_a_with_pairs(&[(0, 1)]), [0, 1], 92);
+    assert_eq!(cells[3..6], [CELL; 3]);
+    refused(&sheet_a_with_pairs(&[(0, 1), (1, 0)]), 17);
+    refused(&sheet_a_with_pairs(&[(0, 0)]), 17);
+}
+
+#[test]
+fn a_with_a_rule_on_door_0() {
+    plans(&sheet_a_with_rule(2, 1, 50), [1, 0], 126);
+    plans(&sheet_a_with_rule(2, 1, 35), [1, 0], 126);
+    plans(&sheet_a_with_rule(2, 1, 34), [0, 1], 126);
+    plans(&sheet_a_with_rule(2, 1, 33), [0, 1], 125);
+}
+
+#[test]
+fn a_with_other_end_loads() {
+    let with_end_load = |end_load| Sheet {
+        end_load,
+        ..sheet_a()
+    };
+    refused(&with_end_load(2), 16);
+    // The van is empty while task 1 alone is open, so the second leg costs nothing.
+    plans(&with_end_load(3), [0, 1], 2 * 5 + 4 + 6 + 30);
+}
+
+#[test]
+fn room_for_a() {
+    let (due, _) = due(&sheet_a()).expect("sheet A reads");
+    let sheet = sheet_a().encode();
+    let mut rng = Rng::new(1);
+    for (number, cells, plan) in [
+        (0, 12, 36),
+        (20, 11, 36),
+        (21, 12, 35),
+        (20, 11, 35),
+        (20, 0, 36),
+        (21, 12, 0),
+        (20, 0, 0),
+        (0, 13, 37),
+        (0, 4_096, 4_096),
+    ] {
+        let room = Room::noise(&mut rng, cells, plan);
+        expect(number, &sheet, Ok(&due), &room, format_args!("sheet A"));
+    }
+}
+
+/// The number of a sheet comes before those of the room.
+#[test]
+fn a_cut_short() {
+    let sheet = sheet_a().encode();
+    let mut rng = Rng::new(1);
+    for (number, len) in [(10, 0), (10, 45), (13, 46), (13, 101)] {
+        for (cells, plan) in [(12, 36), (11, 36), (12, 35), (0, 0)] {
+            let room = Room::noise(&mut rng, cells, plan);
+            let case = format_args!("{len} bytes of A");
+            expect(number, &sheet[..len], Err(number), &room, case);
+        }
+    }
+}
+
+#[test]
+fn twelve_tasks_are_planned_and_thirteen_are_not() {
+    for tasks in 2..=14 {
+        let sheet = sheet_a_with_tasks(tasks);
+        let bytes = sheet.encode();
+        let case = format_args!("A with {tasks} tasks");
+        let mut rng = Rng::new(tasks as u64);
+        let room = Room::noise(&mut rng, 3 << tasks, plan_len(tasks));
+        if tasks <= 12 {
+            let due = recurse(&sheet);
+            expect(0, &bytes, Ok(&due), &room, case);
+            check_own_room(&bytes, Ok(&due), case);
+        } else {
+            assert_eq!(read(&bytes), Err(Refusal(12)), "{case}");
+            expect(12, &bytes, Err(12), &room, case);
+            check_own_room(&bytes, Err(12), case);
+        }
+    }
+}
