@@ -5,6 +5,7 @@ use native.Mathlib.Omega.{arith}
 use native.Mathlib.Nat.{mul-le-mul-right}
 use lib.ListN.{length, length-set}
 use Rattle.model.specs.TaskList.{without}
+use Rattle.model.specs.SheetLayout.{maxTasks}
 use Rattle.model.proofs.Arrays.{Filled, none-filled, one-filled, all-filled}
 use Rattle.table.specs.Cells.{restRows}
 use borrow.Author.Needs.{needs}
@@ -12,10 +13,10 @@ use Rattle.table.proofs.rest_rows.Statement.{statement}
 use Rattle.table.proofs.rest_rows.Tie as tie
 
 abbrev Inv-loop : tie.InvT-loop
-Inv-loop points k rows₀ t₀ rows t = (length rows ≡ 12) × Filled (λ j. without k j * points) rows₀ rows t
+Inv-loop points k rows₀ t₀ rows t = (length rows ≡ maxTasks) × Filled (λ j. without k j * points) rows₀ rows t
 
 abbrev μ-loop : tie.MeasureT-loop
-μ-loop points k rows₀ t₀ rows t = 12 - t
+μ-loop points k rows₀ t₀ rows t = maxTasks - t
 
 loop-holds : tie.Need-loop-holds Inv-loop μ-loop
 loop-holds c = (refl, none-filled _ _)
