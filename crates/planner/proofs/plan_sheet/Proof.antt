@@ -20,22 +20,6 @@ use Rattle.planner.proofs.plan_sheet.Tie as tie
 reads : (c : tie.Start) → Reads (c .args .s .now)
 reads c = reads-sheet (c .args .s .now) (c .pre)
 
--- past the tests of 20 and 21 there is room
-room : (c : tie.Else2) → cellsNeeded (decode (c .before .before .before .before .before .before .before .before .args .s .now)) ≤ length (c .before .before .before .before .before .before .before .before .args .cells .now)
-room c = rw (← c .before .before .before .cells-needed .ensures) (ltb-false _ _ (c .before .if1 .left))
-
-wide : (c : tie.Else2) → planLength (decode (c .before .before .before .before .before .before .before .before .args .s .now) .tasks) ≤ length (c .before .before .before .before .before .before .before .before .args .buf .now)
-wide c =
-    let n = tasks-are (viewed _ (reads (c .before .before .before .before .before .before .before .before)) (c .before .before .before .before .of .ensures)) in
-    rw (← n, ← c .before .before .byte-length .ensures) (ltb-false _ _ (c .if2 .left))
-
--- the start is one of the sheet's
-start-in : (c : tie.After-first-start) → c .first-start .result < decode (c .before .before .before .before .before .before .before .before .before .before .before .before .before .before .args .s .now) .starts
-start-in c =
-    let a = c .before .before .before .before .before .before .before .before .before .before .before .before .before .before .args in
-    start-below (a .s .now) (reads (c .before .before .before .before .before .before .before .before .before .before .before .before .before .before)) (a .cells .now) (a .buf .now) (room (c .before .before .before .before .before .before)) (wide (c .before .before .before .before .before .before))
-    (c .first-start .ensures ∙ ap (firstStart (decode (a .s .now))) (c .before .before .before .before .fill .ensures))
-
 of-requires : tie.Need-of-requires
 of-requires c κs = search needs
 
@@ -58,6 +42,22 @@ returns-2 c =
     let n = tasks-are (viewed _ r (c .before .before .before .before .of .ensures)) in
     let e = short-buffer (a .s .now) r (a .cells .now) (a .buf .now) (rw (← c .before .before .before .cells-needed .ensures) (ltb-false _ _ (c .before .if1 .left))) (rw (← n, ← c .before .before .byte-length .ensures) (ltb-true _ _ (c .if2 .taken))) in
     (sym (ap (λ (x : Planned). x .answer) e), (sym (ap (λ (x : Planned). x .cells) e), sym (ap (λ (x : Planned). x .bytes) e)))
+
+-- past the tests of 20 and 21 there is room
+room : (c : tie.Else2) → cellsNeeded (decode (c .before .before .before .before .before .before .before .before .args .s .now)) ≤ length (c .before .before .before .before .before .before .before .before .args .cells .now)
+room c = rw (← c .before .before .before .cells-needed .ensures) (ltb-false _ _ (c .before .if1 .left))
+
+wide : (c : tie.Else2) → planLength (decode (c .before .before .before .before .before .before .before .before .args .s .now) .tasks) ≤ length (c .before .before .before .before .before .before .before .before .args .buf .now)
+wide c =
+    let n = tasks-are (viewed _ (reads (c .before .before .before .before .before .before .before .before)) (c .before .before .before .before .of .ensures)) in
+    rw (← n, ← c .before .before .byte-length .ensures) (ltb-false _ _ (c .if2 .left))
+
+-- the start is one of the sheet's
+start-in : (c : tie.After-first-start) → c .first-start .result < decode (c .before .before .before .before .before .before .before .before .before .before .before .before .before .before .args .s .now) .starts
+start-in c =
+    let a = c .before .before .before .before .before .before .before .before .before .before .before .before .before .before .args in
+    start-below (a .s .now) (reads (c .before .before .before .before .before .before .before .before .before .before .before .before .before .before)) (a .cells .now) (a .buf .now) (room (c .before .before .before .before .before .before)) (wide (c .before .before .before .before .before .before))
+    (c .first-start .ensures ∙ ap (firstStart (decode (a .s .now))) (c .before .before .before .before .fill .ensures))
 
 fill-requires : tie.Need-fill-requires
 fill-requires c κs = (fillable _ (reads (c .before .before .before .before .before .before .before .before .before)) (c .before .before .before .before .before .of .ensures), room (c .before))
