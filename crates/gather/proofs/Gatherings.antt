@@ -1,72 +1,81 @@
--- What the loop over the doors has gathered: one door more that can come first, or that cannot. Assumes nothing.
-use mathlib.Core.Path.{_≡_, refl, ap, _∙_}
-use mathlib.Core.Bool.{Bool, true, false}
+-- What the loop over the doors that can come first has gathered of them: one door more. Assumes nothing.
+use mathlib.Core.Path.{_≡_, refl, sym, ap, _∙_}
+use mathlib.Core.Bool.{Bool, true}
 use mathlib.Core.List.{List, map}
 use Prim.Native.Nat.{ℕ, _+_, _≤_, _<_}
 use native.Mathlib.Omega.{arith}
-use lib.ListN.{length, set}
+use lib.ListN.{length, getD, set, take}
+use lib.Seq.{getD-take}
 use Rattle.model.specs.Folds.{passingBelow}
 use Rattle.model.specs.Bytes.{overwrite}
 use Rattle.model.specs.Sheet.{Sheet}
 use Rattle.model.specs.Orders.{canComeFirst}
 use Rattle.model.specs.Plans.{firstDoors}
-use Rattle.gather.proofs.Fronts.{Front, no-front, front-same, front-next, count-same, count-one, map-same}
+use Rattle.gather.proofs.Passing.{FoundBelow, passing-few, passing-each}
+use Rattle.gather.proofs.Fronts.{Front, no-front, front-next, front-whole, map-same}
 
 -- whether door d's task can come first
 abbrev pub isFirst : Sheet → ℕ → ℕ → Bool
 isFirst S K d = canComeFirst S K (S .task d)
 
--- of the doors below d: how many, and the front of each of the arrays
-pub record GatheredBelow (S : Sheet) (K : ℕ) (part : ℕ → ℕ) (doors₀ arrivals₀ parts₀ doors arrivals parts : List ℕ) (m d : ℕ) : Type 0 where
-  pub few : m ≤ d
-  pub count : m ≡ length (passingBelow d (isFirst S K))
-  pub door : Front (λ (x : ℕ). x) (isFirst S K) doors₀ doors d
-  pub arrival : Front (S .arrive) (isFirst S K) arrivals₀ arrivals d
-  pub rest : Front part (isFirst S K) parts₀ parts d
+-- ---- the doors that can come first
 
-pub none-gathered : (S : Sheet) (K : ℕ) (part : ℕ → ℕ) (x y z : List ℕ) → GatheredBelow S K part x y z x y z 0 0
-none-gathered S K part x y z = record { few = omega arith; count = refl; door = no-front _ _ x; arrival = no-front _ _ y; rest = no-front _ _ z }
+module _ (S : Sheet) (K : ℕ) where
+  pub first-few : length (firstDoors S K) ≤ S .doors
+  unfolding firstDoors
+  first-few = passing-few (isFirst S K) (S .doors)
 
-module _ {S : Sheet} {K : ℕ} {part : ℕ → ℕ} {x y z doors arrivals parts : List ℕ} {m d : ℕ} (h : GatheredBelow S K part x y z doors arrivals parts m d) where
-  pub gather-skip : isFirst S K d ≡ false → GatheredBelow S K part x y z doors arrivals parts m (d + 1)
-  gather-skip e = record {
-    few = omega (arith, h .few);
-    count = count-same (isFirst S K) d m e (h .count);
-    door = front-same (h .door) e;
-    arrival = front-same (h .arrival) e;
-    rest = front-same (h .rest) e;
+  pub first-each : (i : ℕ) → i < length (firstDoors S K) → (getD (firstDoors S K) i 0 < S .doors) × (isFirst S K (getD (firstDoors S K) i 0) ≡ true)
+  unfolding firstDoors
+  first-each i l = passing-each (isFirst S K) (λ d. (d < S .doors) × (isFirst S K d ≡ true)) (S .doors) (λ d m e. (m, e)) i l
+
+  -- all are found
+  pub all-found : {room m d : ℕ} {xs : List ℕ} → FoundBelow (isFirst S K) room xs m d → d ≡ S .doors → (m ≡ length (firstDoors S K)) × (take m xs ≡ firstDoors S K)
+  unfolding firstDoors
+  all-found h e = let p = ap (λ (n : ℕ). passingBelow n (isFirst S K)) e in (h .count ∙ ap length p, h .is ∙ p)
+
+-- place i of what was found
+pub record FoundAt (S : Sheet) (K : ℕ) (found : List ℕ) (i : ℕ) : Type 0 where
+  pub within : i < length (firstDoors S K)
+  pub few : i < S .doors
+  pub is : getD found i 0 ≡ getD (firstDoors S K) i 0
+  pub door : getD found i 0 < S .doors
+  pub can : isFirst S K (getD found i 0) ≡ true
+
+pub found-at : (S : Sheet) (K : ℕ) {m i : ℕ} {found : List ℕ} → m ≡ length (firstDoors S K) → take m found ≡ firstDoors S K → i < m → FoundAt S K found i
+found-at S K {m} {i} {found} c e l =
+    let w : i < length (firstDoors S K) = omega arith in
+    let q : getD found i 0 ≡ getD (firstDoors S K) i 0 = sym (getD-take m found i 0 l) ∙ ap (λ (xs : List ℕ). getD xs i 0) e in
+    let d = first-each S K i w in
+    record { within = w; few = omega (arith, first-few S K); is = q; door = rw q (d .0); can = rw q (d .1) }
+
+-- ---- what is gathered of them
+
+-- of the first i of the doors xs: the front of each of the arrays
+pub record GatheredTo (S : Sheet) (xs : List ℕ) (part : ℕ → ℕ) (doors₀ arrivals₀ parts₀ doors arrivals parts : List ℕ) (i : ℕ) : Type 0 where
+  pub door : Front (λ (x : ℕ). x) xs doors₀ doors i
+  pub arrival : Front (S .arrive) xs arrivals₀ arrivals i
+  pub rest : Front part xs parts₀ parts i
+
+pub none-gathered : (S : Sheet) (xs : List ℕ) (part : ℕ → ℕ) (x y z : List ℕ) → GatheredTo S xs part x y z x y z 0
+none-gathered S xs part x y z = record { door = no-front _ _ x; arrival = no-front _ _ y; rest = no-front _ _ z }
+
+module _ {S : Sheet} {xs : List ℕ} {part : ℕ → ℕ} {x y z doors arrivals parts : List ℕ} {i : ℕ} (h : GatheredTo S xs part x y z doors arrivals parts i) where
+  -- d, a and v are what the code stores
+  pub gather-one : {d a v : ℕ} {doors' arrivals' parts' : List ℕ} → i < length xs → i < length x → i < length y → i < length z → d ≡ getD xs i 0 → a ≡ S .arrive d → v ≡ part d
+      → doors' ≡ set doors i d → arrivals' ≡ set arrivals i a → parts' ≡ set parts i v → GatheredTo S xs part x y z doors' arrivals' parts' (i + 1)
+  gather-one l lx ly lz qd qa qv p q r = record {
+    door = front-next (h .door) l lx qd p;
+    arrival = front-next (h .arrival) l ly (qa ∙ ap (S .arrive) qd) q;
+    rest = front-next (h .rest) l lz (qv ∙ ap part qd) r;
   }
 
-  -- a and v are what the code stores
-  pub gather-one : {a v : ℕ} {doors' arrivals' parts' : List ℕ} → isFirst S K d ≡ true → d < length x → d < length y → d < length z → a ≡ S .arrive d → v ≡ part d
-      → doors' ≡ set doors m d → arrivals' ≡ set arrivals m a → parts' ≡ set parts m v → GatheredBelow S K part x y z doors' arrivals' parts' (m + 1) (d + 1)
-  gather-one e lx ly lz qa qv p q r =
-      let few = h .few in
-      record {
-        few = omega arith;
-        count = count-one (isFirst S K) d m e (h .count);
-        door = front-next (h .door) e (h .count) (omega arith) refl p;
-        arrival = front-next (h .arrival) e (h .count) (omega arith) qa q;
-        rest = front-next (h .rest) e (h .count) (omega arith) qv r;
-      }
+  module _ (e : i ≡ length xs) where
+    pub all-doors : doors ≡ overwrite xs x
+    all-doors = front-whole (h .door) e ∙ ap (λ (l : List ℕ). overwrite l x) (map-same xs)
 
-  -- where the code stores is within the arrays
-  pub room : (d < length x → m < length doors) × (d < length y → m < length arrivals) × (d < length z → m < length parts)
-  room = let few = h .few in let a = h .door .size in let b = h .arrival .size in let c = h .rest .size in ((λ l. omega arith), (λ l. omega arith), (λ l. omega arith))
+    pub all-arrivals : arrivals ≡ overwrite (map (S .arrive) xs) y
+    all-arrivals = front-whole (h .arrival) e
 
-  module _ (e : d ≡ S .doors) where
-    fronts : passingBelow d (isFirst S K) ≡ firstDoors S K
-    unfolding firstDoors
-    fronts = ap (λ (n : ℕ). passingBelow n (isFirst S K)) e
-
-    pub all-counted : m ≡ length (firstDoors S K)
-    all-counted = h .count ∙ ap length fronts
-
-    pub all-doors : doors ≡ overwrite (firstDoors S K) x
-    all-doors = h .door .is ∙ ap (λ (l : List ℕ). overwrite l x) (map-same (passingBelow d (isFirst S K)) ∙ fronts)
-
-    pub all-arrivals : arrivals ≡ overwrite (map (S .arrive) (firstDoors S K)) y
-    all-arrivals = h .arrival .is ∙ ap (λ (l : List ℕ). overwrite (map (S .arrive) l) y) fronts
-
-    pub all-parts : parts ≡ overwrite (map part (firstDoors S K)) z
-    all-parts = h .rest .is ∙ ap (λ (l : List ℕ). overwrite (map part l) z) fronts
+    pub all-parts : parts ≡ overwrite (map part xs) z
+    all-parts = front-whole (h .rest) e

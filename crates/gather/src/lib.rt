@@ -2,7 +2,7 @@
 ghost use mathlib.Core.Path.{_≡_};
 ghost use mathlib.Core.List.{map};
 ghost use Prim.Native.Nat.{_^_, _≤_, _<_};
-ghost use lib.ListN.{length};
+ghost use lib.ListN.{length, take};
 ghost use Rattle.model.specs.Folds.{mapBelow};
 ghost use Rattle.model.specs.Bytes.{overwrite};
 ghost use Rattle.model.specs.SheetLayout.{maxDoors, decode};
@@ -44,10 +44,9 @@ fn door_charges(s: &[u8], v: View, k: u32) -> [u64; MAX_DOORS]
     let mut i: u16 = 0;
     while i < rules {
         let watched = view::watched(s, v, i) as u32;
-        if view::least_count(s, v, i) as u32 <= tasklist::watched_in(watched, k) {
-            let d = view::rule_door(s, v, i) as usize;
-            sums[d] = sums[d] + view::charge(s, v, i) as u64;
-        }
+        let applies = view::least_count(s, v, i) as u32 <= tasklist::watched_in(watched, k);
+        let d = view::rule_door(s, v, i) as usize;
+        sums[d] = sums[d] + view::charge(s, v, i) as u64 * applies as u64;
         i = i + 1;
     }
     sums
@@ -61,6 +60,25 @@ fn part(s: &[u8], v: View, cells: &[u64], rows: &[usize], apart: usize, charge: 
     let t = view::task(s, v, d) as usize;
     let at = rows[t] + view::depart(s, v, d) as usize * apart;
     view::work(s, v, d) as u64 + charge + cells[at]
+}
+
+// Finds the doors whose task can come first in list k, in the order of their numbers: they stand at the front of `found`, and how many they are is answered. Every door
+// is stored behind those found so far, and stays there if it is counted: with no branch that hangs on the door.
+fn first_doors(s: &[u8], v: View, k: u32, found: &mut [u16]) -> usize
+    requires { ⌜ Viewed (now s) v × (decode (now s) .doors ≤ length (now found)) ⌝ }
+    ensures count { λ r. ⌜ r ≡ length (firstDoors (decode (now (s .entry))) k) ⌝ }
+    ensures found { λ r. ⌜ take r (now (found .exit)) ≡ firstDoors (decode (now (s .entry))) k ⌝ }
+{
+    let first = first_tasks(s, v, k);
+    let n = v.doors;
+    let mut m: usize = 0;
+    let mut d: u16 = 0;
+    while d < n {
+        found[m] = d;
+        m = m + tasklist::contains(first, view::task(s, v, d)) as usize;
+        d = d + 1;
+    }
+    m
 }
 
 // Gathers the doors whose task can come first in list k, in the order of their numbers, to the front of `doors`, `arrivals` and `parts`, and answers how many
@@ -84,18 +102,15 @@ pub fn gather(
     ensures parts { λ r. ⌜ now (parts .exit) ≡ overwrite (map (partOf (decode (now (s .entry))) k (now (cells .entry)) (now (rows .entry)) apart) (firstDoors (decode (now (s .entry))) k)) (now (parts .entry)) ⌝ }
 {
     let charge = door_charges(s, v, k);
-    let first = first_tasks(s, v, k);
-    let n = v.doors;
-    let mut m: usize = 0;
-    let mut d: u16 = 0;
-    while d < n {
-        if tasklist::contains(first, view::task(s, v, d)) {
-            doors[m] = d;
-            arrivals[m] = view::arrive(s, v, d);
-            parts[m] = part(s, v, cells, rows, apart, charge[d as usize], d);
-            m = m + 1;
-        }
-        d = d + 1;
+    let mut found = [0u16; MAX_DOORS];
+    let m = first_doors(s, v, k, &mut found);
+    let mut i: usize = 0;
+    while i < m {
+        let d = found[i];
+        doors[i] = d;
+        arrivals[i] = view::arrive(s, v, d);
+        parts[i] = part(s, v, cells, rows, apart, charge[d as usize], d);
+        i = i + 1;
     }
     m
 }
