@@ -1,5 +1,5 @@
 -- The array begins with the doors so far whose task can come first. Assumes nothing.
-use mathlib.Core.Path.{_≡_, sym, ap₂, _∙_}
+use mathlib.Core.Path.{sym, ap₂, _∙_}
 use Prim.Native.Nat.{ℕ, _+_, _-_, _≤_, _<_}
 use native.Mathlib.Omega.{arith}
 use borrow.Author.Needs.{needs}
@@ -15,7 +15,7 @@ use Rattle.gather.proofs.first_doors.Statement.{statement}
 use Rattle.gather.proofs.first_doors.Tie as tie
 
 abbrev Inv-loop : tie.InvT-loop
-Inv-loop s v k found₀ first n m₀ d₀ found m d = (d ≤ n) × FoundBelow (isFirst (decode s) k) (length found₀) found m d
+Inv-loop s v k found₀ first n m₀ d₀ found m d = FoundBelow (isFirst (decode s) k) (length found₀) found m d × (d ≤ n)
 
 abbrev μ-loop : tie.MeasureT-loop
 μ-loop s v k found₀ first n m₀ d₀ found m d = n - d
@@ -24,7 +24,7 @@ first-tasks-requires : tie.Need-first-tasks-requires Inv-loop μ-loop
 first-tasks-requires c κs = c .before .before .pre .0
 
 loop-holds : tie.Need-loop-holds Inv-loop μ-loop
-loop-holds c = (omega arith, none-found _ _)
+loop-holds c = (none-found _ _, omega arith)
 
 -- while the loop goes on, door d is one of the sheet's
 in-sheet : (c : tie.In-loop Inv-loop μ-loop) → c .before .loop .d < decode (c .before .before .before .before .before .args .s .now) .doors
@@ -32,10 +32,10 @@ in-sheet c = let n = doors-are (c .before .before .before .before .before .pre .
 
 -- and has its place behind those found so far
 room : (c : tie.In-loop Inv-loop μ-loop) → c .before .loop .m < length (c .before .loop .found)
-room c = omega (arith, in-sheet c, found-few (c .before .loop .inv .1), c .before .loop .inv .1 .size, c .before .before .before .before .before .pre .1)
+room c = omega (arith, in-sheet c, found-few (c .before .loop .inv .0), c .before .loop .inv .0 .size, c .before .before .before .before .before .pre .1)
 
 mul-found : tie.Need-mul-found Inv-loop μ-loop
-mul-found c = omega (arith, found-few (c .before .loop .inv .1))
+mul-found c = omega (arith, found-few (c .before .loop .inv .0))
 
 slice-write-found : tie.Need-slice-write-found Inv-loop μ-loop
 slice-write-found c = room c
@@ -57,7 +57,7 @@ found : (c : tie.After-contains Inv-loop μ-loop) →
 found c =
     let l = c .before .before .before in
     let a = l .before .before .before .before .args in
-    one-found (l .loop .inv .1) (room (c .before .before))
+    one-found (l .loop .inv .0) (room (c .before .before))
     (sym (c .contains .ensures ∙ ap₂ (λ (K t : ℕ). member K t) (l .before .first-tasks .ensures) (c .before .task .ensures) ∙ first-member (decode (a .s .now)) (a .k) _))
 
 add-m : tie.Need-add-m Inv-loop μ-loop
@@ -70,13 +70,13 @@ loop-less : tie.Need-loop-less Inv-loop μ-loop
 loop-less c = search needs
 
 loop-again : tie.Need-loop-again Inv-loop μ-loop
-loop-again c = (omega arith, found c)
+loop-again c = (found c, omega arith)
 
 same-length : tie.Need-same-length Inv-loop μ-loop
 same-length c = search needs
 
 returns : tie.Need-returns Inv-loop μ-loop
-returns c = let n = doors-are (c .before .before .before .before .before .pre .0) in all-found _ _ (c .before .loop .inv .1) (omega arith)
+returns c = let n = doors-are (c .before .before .before .before .before .pre .0) in all-found _ _ (c .before .loop .inv .0) (omega arith)
 
 pub first-doors-spec : {M : Type 1} → statement M
 first-doors-spec =

@@ -38,6 +38,12 @@ at : (c : tie.In-loop Inv-loop μ-loop) →
     let a = c .before .before .before .before .before .before .before .before .before .before .before .before .args in FoundAt (decode (a .s .now)) (a .k) (c .before .before .before .first-doors .last .1 .1 .1 .0) (c .before .loop .i)
 at c = let e = c .before .before .before .first-doors .ensures in found-at _ _ (e .0) (e .1) (omega arith)
 
+few : (c : tie.In-loop Inv-loop μ-loop) → c .before .loop .i < maxDoors
+few c = omega (arith, at c .few, c .before .before .before .before .before .before .before .before .before .before .before .before .pre .0 .doors)
+
+below : (c : tie.In-loop Inv-loop μ-loop) → getD (c .before .before .before .first-doors .last .1 .1 .1 .0) (c .before .loop .i) 0 < maxDoors
+below c = omega (arith, at c .door, c .before .before .before .before .before .before .before .before .before .before .before .before .pre .0 .doors)
+
 -- what is charged there
 charge-is : (c : tie.In-loop Inv-loop μ-loop) →
     let a = c .before .before .before .before .before .before .before .before .before .before .before .before .args in
@@ -47,16 +53,16 @@ charge-is c =
     let a = c .before .before .before .before .before .before .before .before .before .before .before .before .args in
     let d = getD (c .before .before .before .first-doors .last .1 .1 .1 .0) (c .before .loop .i) 0 in
     ap (λ (xs : List ℕ). getD xs d 0) (c .before .before .before .before .before .door-charges .ensures)
-    ∙ mapBelow-at maxDoors (charges (decode (a .s .now)) (a .k)) d 0 (omega (arith, at c .door, c .before .before .before .before .before .before .before .before .before .before .before .before .pre .0 .doors))
+    ∙ mapBelow-at maxDoors (charges (decode (a .s .now)) (a .k)) d 0 (below c)
 
 mul-d : tie.Need-mul-d Inv-loop μ-loop
-mul-d c = omega (arith, at c .few, c .before .before .before .before .before .before .before .before .before .before .before .before .pre .0 .doors)
+mul-d c = omega (arith, few c)
 
 array-read-d : tie.Need-array-read-d Inv-loop μ-loop
-array-read-d c = omega (arith, at c .few, c .before .before .before .before .before .before .before .before .before .before .before .before .pre .0 .doors)
+array-read-d c = few c
 
 mul-doors : tie.Need-mul-doors Inv-loop μ-loop
-mul-doors c = omega (arith, at c .few, c .before .before .before .before .before .before .before .before .before .before .before .before .pre .0 .doors)
+mul-doors c = omega (arith, few c)
 
 slice-write-doors : tie.Need-slice-write-doors Inv-loop μ-loop
 slice-write-doors c = omega (arith, at c .few, c .before .loop .inv .1 .door .size, c .before .before .before .before .before .before .before .before .before .before .before .before .pre .1 .0)
@@ -65,19 +71,19 @@ arrive-requires : tie.Need-arrive-requires Inv-loop μ-loop
 arrive-requires c κs = (c .before .before .before .before .before .before .before .before .before .before .before .before .pre .0 .rules .view, at c .door)
 
 mul-arrivals : tie.Need-mul-arrivals Inv-loop μ-loop
-mul-arrivals c = omega (arith, at (c .before) .few, c .before .before .before .before .before .before .before .before .before .before .before .before .before .pre .0 .doors)
+mul-arrivals c = omega (arith, few (c .before))
 
 slice-write-arrivals : tie.Need-slice-write-arrivals Inv-loop μ-loop
 slice-write-arrivals c = omega (arith, at (c .before) .few, c .before .before .loop .inv .1 .arrival .size, c .before .before .before .before .before .before .before .before .before .before .before .before .before .pre .1 .1)
 
 cast-part : tie.Need-cast-part Inv-loop μ-loop
-cast-part c = omega (arith, at (c .before) .door, c .before .before .before .before .before .before .before .before .before .before .before .before .before .pre .0 .doors)
+cast-part c = omega (arith, below (c .before))
 
 mul-part : tie.Need-mul-part Inv-loop μ-loop
-mul-part c = omega (arith, at (c .before) .door, c .before .before .before .before .before .before .before .before .before .before .before .before .before .pre .0 .doors)
+mul-part c = omega (arith, below (c .before))
 
 array-read-part : tie.Need-array-read-part Inv-loop μ-loop
-array-read-part c = omega (arith, at (c .before) .door, c .before .before .before .before .before .before .before .before .before .before .before .before .before .pre .0 .doors)
+array-read-part c = below (c .before)
 
 part-requires : tie.Need-part-requires Inv-loop μ-loop
 unfolding partOf
@@ -87,7 +93,7 @@ part-requires c κs =
     (p .rules .view, f .door, p .row _ (f .door) (f .can), p .rest _ (f .door) (f .can), rw (charge-is (c .before)) (p .fits _ (f .door) (f .can)))
 
 mul-parts : tie.Need-mul-parts Inv-loop μ-loop
-mul-parts c = omega (arith, at (c .before .before) .few, c .before .before .before .before .before .before .before .before .before .before .before .before .before .before .pre .0 .doors)
+mul-parts c = omega (arith, few (c .before .before))
 
 slice-write-parts : tie.Need-slice-write-parts Inv-loop μ-loop
 slice-write-parts c = omega (arith, at (c .before .before) .few, c .before .before .before .loop .inv .1 .rest .size, c .before .before .before .before .before .before .before .before .before .before .before .before .before .before .pre .1 .2)
@@ -122,9 +128,10 @@ same-length-3 c = search needs
 
 returns : tie.Need-returns Inv-loop μ-loop
 returns c =
+    let a = c .before .before .before .before .before .before .before .before .before .before .before .before .args in
     let e = c .before .before .before .first-doors .ensures .0 in
     let l = c .before .loop in
-    let n : l .i ≡ length (firstDoors (decode (c .before .before .before .before .before .before .before .before .before .before .before .before .args .s .now)) (c .before .before .before .before .before .before .before .before .before .before .before .before .args .k)) = omega arith in
+    let n : l .i ≡ length (firstDoors (decode (a .s .now)) (a .k)) = omega arith in
     (e, (all-doors (l .inv .1) n, (all-arrivals (l .inv .1) n, all-parts (l .inv .1) n)))
 
 pub gather-spec : {M : Type 1} → statement M
