@@ -52,18 +52,18 @@ found-at S K {m} {i} {found} c e l =
 -- ---- what is gathered of them
 
 -- of the first i of the doors xs: the front of each of the arrays
-pub record GatheredTo (S : Sheet) (xs : List ℕ) (part : ℕ → ℕ) (doors₀ arrivals₀ parts₀ doors arrivals parts : List ℕ) (i : ℕ) : Type 0 where
+pub record GatheredBelow (S : Sheet) (xs : List ℕ) (part : ℕ → ℕ) (doors₀ arrivals₀ parts₀ doors arrivals parts : List ℕ) (i : ℕ) : Type 0 where
   pub door : Front (λ (x : ℕ). x) xs doors₀ doors i
   pub arrival : Front (S .arrive) xs arrivals₀ arrivals i
   pub rest : Front part xs parts₀ parts i
 
-pub none-gathered : (S : Sheet) (xs : List ℕ) (part : ℕ → ℕ) (x y z : List ℕ) → GatheredTo S xs part x y z x y z 0
+pub none-gathered : (S : Sheet) (xs : List ℕ) (part : ℕ → ℕ) (x y z : List ℕ) → GatheredBelow S xs part x y z x y z 0
 none-gathered S xs part x y z = record { door = no-front _ _ x; arrival = no-front _ _ y; rest = no-front _ _ z }
 
-module _ {S : Sheet} {xs : List ℕ} {part : ℕ → ℕ} {x y z doors arrivals parts : List ℕ} {i : ℕ} (h : GatheredTo S xs part x y z doors arrivals parts i) where
+module _ {S : Sheet} {xs : List ℕ} {part : ℕ → ℕ} {x y z doors arrivals parts : List ℕ} {i : ℕ} (h : GatheredBelow S xs part x y z doors arrivals parts i) where
   -- d, a and v are what the code stores
   pub gather-one : {d a v : ℕ} {doors' arrivals' parts' : List ℕ} → i < length xs → i < length x → i < length y → i < length z → d ≡ getD xs i 0 → a ≡ S .arrive d → v ≡ part d
-      → doors' ≡ set doors i d → arrivals' ≡ set arrivals i a → parts' ≡ set parts i v → GatheredTo S xs part x y z doors' arrivals' parts' (i + 1)
+      → doors' ≡ set doors i d → arrivals' ≡ set arrivals i a → parts' ≡ set parts i v → GatheredBelow S xs part x y z doors' arrivals' parts' (i + 1)
   gather-one l lx ly lz qd qa qv p q r = record {
     door = front-next (h .door) l lx qd p;
     arrival = front-next (h .arrival) l ly (qa ∙ ap (S .arrive) qd) q;

@@ -9,14 +9,15 @@ use Rattle.model.specs.Cost.{charges}
 use Rattle.model.specs.Plans.{firstDoors}
 use Rattle.model.specs.SheetLayout.{maxDoors, decode}
 use Rattle.model.proofs.Folds.{mapBelow-at}
-use Rattle.gather.specs.Gathering.{partOf, partWith}
-use Rattle.gather.proofs.Gatherings.{FoundAt, found-at, GatheredTo, none-gathered, gather-one, all-doors, all-arrivals, all-parts}
+use Rattle.gather.specs.Gathering.{partOf}
+use Rattle.gather.proofs.Rest.{part-of}
+use Rattle.gather.proofs.Gatherings.{FoundAt, found-at, GatheredBelow, none-gathered, gather-one, all-doors, all-arrivals, all-parts}
 use Rattle.gather.proofs.gather.Statement.{statement}
 use Rattle.gather.proofs.gather.Tie as tie
 
 abbrev Inv-loop : tie.InvT-loop
 Inv-loop s v k cells rows apart doors₀ arrivals₀ parts₀ charge found m i₀ doors arrivals parts i =
-    (i ≤ m) × GatheredTo (decode s) (firstDoors (decode s) k) (partOf (decode s) k cells rows apart) doors₀ arrivals₀ parts₀ doors arrivals parts i
+    (i ≤ m) × GatheredBelow (decode s) (firstDoors (decode s) k) (partOf (decode s) k cells rows apart) doors₀ arrivals₀ parts₀ doors arrivals parts i
 
 abbrev μ-loop : tie.MeasureT-loop
 μ-loop s v k cells rows apart doors₀ arrivals₀ parts₀ charge found m i₀ doors arrivals parts i = m - i
@@ -105,16 +106,13 @@ loop-less : tie.Need-loop-less Inv-loop μ-loop
 loop-less c = search needs
 
 loop-again : tie.Need-loop-again Inv-loop μ-loop
-unfolding partOf
 loop-again c =
-    let l = c .before .before .before .loop in
-    let a = c .before .before .before .before .before .before .before .before .before .before .before .before .before .before .args in
     let p = c .before .before .before .before .before .before .before .before .before .before .before .before .before .before .pre .1 in
     let f = at (c .before .before) in
     let few = f .few in (
       omega arith,
-      gather-one (l .inv .1) (f .within) (omega (arith, p .0)) (omega (arith, p .1)) (omega (arith, p .2)) (f .is) (c .before .arrive .ensures)
-          (c .part .ensures ∙ ap (λ (x : ℕ). partWith (decode (a .s .now)) (a .cells .now) (a .rows .now) (a .apart) x (getD (c .before .before .before .before .before .first-doors .last .1 .1 .1 .0) (l .i) 0)) (charge-is (c .before .before))) refl refl refl,
+      gather-one (c .before .before .before .loop .inv .1) (f .within) (omega (arith, p .0)) (omega (arith, p .1)) (omega (arith, p .2)) (f .is) (c .before .arrive .ensures)
+          (part-of _ _ _ _ _ _ (c .part .ensures) (charge-is (c .before .before))) refl refl refl,
     )
 
 same-length : tie.Need-same-length Inv-loop μ-loop
