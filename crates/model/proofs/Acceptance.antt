@@ -7,7 +7,7 @@ use Rattle.model.specs.TaskList.{bit, with, without, full, size, watched
 use Rattle.model.specs.Orders.{isOrder, keepsPair, keepsEveryPair, pairWithin, keepsPairsWithin, isAdmissible, isOrderWithin, admissibleOrders, noOrder, essential, pairsAllow}
 use Rattle.model.specs.Cost.{load, ruleCharge, charges, stepCost}
 use Rattle.model.specs.Plans.{inSheet, isSolution, roundCost, planCost, plans, solutions, cheapest, isCompletion, completions, costToGo}
-use Rattle.model.specs.Bytes.{numberAt, signed, bytesOf, overwrite, overwriteAt}
+use Rattle.model.specs.Bytes.{numberAt, signed, bytesOf, overwrite, overwriteAt, writtenAt}
 use Rattle.model.specs.Answer.{accepted}
 use Rattle.model.specs.SheetLayout.{kind1, fieldWidth, bytesBefore, entryBytes, lineAt, lineBody, lineOffset, entries, fieldAt, sheetLength, decodeBy, decode}
 use Rattle.model.specs.Faults.{tooShort, wrongKind, wrongEntries, wrongLine, wrongLength, badDoor, badStart, badPair, badRule, outOfRange, lacksDoor, tooLight, unlessFault, readSheet}
@@ -15,7 +15,7 @@ use Rattle.model.specs.PlanLayout.{planStartAt, planDoorsAt, planCostAt,
 use Rattle.model.specs.PlanInHand.{noDoors, withDoor, inHand}
 use Rattle.model.specs.Validating.{notInSheet, doneTwice, validateFor, validate}
 use Rattle.model.specs.Planning.{cellsNeeded, planFor, cellAfter, cellsAfter, plan}
-use Rattle.model.specs.Printing.{decimal, refusalLine, stepLine, planLines, printInput, printedFor, printed}
+use Rattle.model.specs.Printing.{decimal, refusalLine, stepLine, planLines, printedWith, print, printInput, printed}
 
 examples : T checkStarred × T checkFurther × (readSheet sheetA ≡ accepted (record { tasks = 2; points = 3 }))
 unfolding checkStarred checkFurther
@@ -24,14 +24,14 @@ unfolding checkStarred checkFurther
     isOrder keepsPair keepsEveryPair pairWithin keepsPairsWithin isAdmissible isOrderWithin admissibleOrders noOrder essential pairsAllow
     load ruleCharge charges stepCost
     inSheet isSolution roundCost planCost plans solutions cheapest isCompletion completions costToGo
-    numberAt signed bytesOf overwrite overwriteAt
+    numberAt signed bytesOf overwrite overwriteAt writtenAt
     kind1 fieldWidth bytesBefore entryBytes lineAt lineBody lineOffset entries fieldAt sheetLength decodeBy decode
     tooShort wrongKind wrongEntries wrongLine wrongLength badDoor badStart badPair badRule outOfRange lacksDoor tooLight unlessFault readSheet
     planStartAt planDoorsAt planCostAt planLength lineBytes planHead planBytes wrongTasks writeAnswer bytesWritten writePlan illFormed startIn doorIn doorsIn costIn doorArray readPlan
     noDoors withDoor inHand
     notInSheet doneTwice validateFor validate
     cellsNeeded planFor cellAfter cellsAfter plan
-    decimal refusalLine stepLine planLines printInput printedFor printed
+    decimal refusalLine stepLine planLines printedWith print printInput printed
 examples = (tt, tt, refl)
 
 -- the starred lines, all of them

@@ -22,7 +22,7 @@ use Rattle.model.specs.Planning.{cellsNeeded, orNoOrder, planFor, cellAf
 use Rattle.model.specs.TaskList.{full}
 use Rattle.model.proofs.Tests.{tested}
 use Rattle.model.proofs.Folds.{length-mapBelow, mapBelow-at}
-use Rattle.model.proofs.Reading.{refused≢accepted, refused-number, Reads, counts-read, Passed, light-then, refused-reads}
+use Rattle.model.proofs.Reading.{refused≢accepted, refused-number, accepted-value, passed, Reads, counts-read, Passed, light-then, accepted-reads, refused-reads}
 use Rattle.model.proofs.Ranges.{in-range, served}
 use Rattle.model.proofs.Cheapest.{cheapest-some}
 use Rattle.model.proofs.Driving.{Plannable, has-completion}
@@ -84,6 +84,19 @@ refused-planned b cells buffer r = go (planFor b (length cells) (length buffer))
     go : (a : Answer Plan) → carriedOut (decode b) a cells buffer .answer ≡ refused r → a ≡ refused r
     go (refused n) e = ap refused (refused-number e)
     go (accepted x) e = absurd (refused≢accepted (sym e))
+
+-- a plan that is answered is the cheapest, of a sheet that reads
+pub accepted-plan : (b : List ℕ) (cells room : ℕ) (x : Plan) → planFor b cells room ≡ accepted x → Reads b × (cheapest (decode b) ≡ some x)
+unfolding planFor
+accepted-plan b cells room x e =
+    let r = accepted-reads b _ x e in
+    let p = passed (ltb cells (cellsNeeded (decode b))) 20 _ x (r .1) in
+    let q = passed (ltb room (planLength (decode b .tasks))) 21 _ x (p .1) in
+    (r .0, go (cheapest (decode b)) (q .1))
+  where
+    go : (o : Option Plan) → orNoOrder o ≡ accepted x → o ≡ some x
+    go none h = absurd (refused≢accepted h)
+    go (some y) h = ap some (accepted-value h)
 
 -- what planning refuses with: the sheet's own numbers, 20 and 21
 pub plan-refusals : (b : List ℕ) (cells room r : ℕ) → planFor b cells room ≡ refused r → ((10 ≤ r) × (r ≤ 17)) ⊎ ((r ≡ 20) ⊎ (r ≡ 21))

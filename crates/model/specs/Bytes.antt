@@ -27,3 +27,7 @@ overwrite bytes buffer = bytes ++ drop (length bytes) buffer
 -- the buffer with the bytes from byte i on, if they fit; else as it is (01, Layout of a plan)
 unfoldable pub overwriteAt : ℕ → List ℕ → List ℕ → List ℕ
 overwriteAt i bytes buffer = cond (leb (i + length bytes) (length buffer)) (take i buffer ++ bytes ++ drop (i + length bytes) buffer) buffer
+
+-- how many bytes that writes: all of them, or none (01, Layout of a plan)
+unfoldable pub writtenAt : ℕ → List ℕ → List ℕ → ℕ
+writtenAt i bytes buffer = cond (leb (i + length bytes) (length buffer)) (length bytes) 0

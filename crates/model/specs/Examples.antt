@@ -6,7 +6,7 @@ use lib.Dec.{eqb}
 use lib.ListN.{length, take, set}
 use Rattle.model.specs.Folds.{sameList}
 use Rattle.model.specs.Plans.{roundCost}
-use Rattle.model.specs.Bytes.{overwriteAt}
+use Rattle.model.specs.Bytes.{overwriteAt, writtenAt}
 use Rattle.model.specs.Answer.{Answer, refused, accepted, status, placed}
 use Rattle.model.specs.SheetLayout.{maxPoints, kind1, sheetLength, decode}
 use Rattle.model.specs.Faults.{Counts, readSheet}
@@ -14,7 +14,7 @@ use Rattle.model.specs.PlanLayout.{writePlan, PlanRead, readPlan}
 use Rattle.model.specs.PlanInHand.{PlanInHand, noDoors, withDoors, inHand}
 use Rattle.model.specs.Validating.{validate}
 use Rattle.model.specs.Planning.{Planned, plan}
-use Rattle.model.specs.Printing.{ascii, printed}
+use Rattle.model.specs.Printing.{ascii, Printed, print, printed}
 
 -- ---- the sheets
 
@@ -146,6 +146,13 @@ planLikeA d₁ d₂ cost =
     ∷ 24 ∷ 0 ∷ 2 ∷ 0 ∷ 3 ∷ 0 ∷ 28 ∷ 0 ∷ 1 ∷ 0 ∷ 0 ∷ 0
     ∷ d₁ ∷ 0 ∷ d₂ ∷ 0 ∷ cost ∷ 0 ∷ 0 ∷ 0 ∷ 0 ∷ 0 ∷ 0 ∷ 0 ∷ []
 
+-- what A's cells hold after planning, with the noise beyond; what is printed for A
+abbrev cellsA : List ℕ
+cellsA = 0 ∷ 20 ∷ 30 ∷ 54 ∷ 24 ∷ 84 ∷ 57 ∷ 64 ∷ 36 ∷ 92 ∷ 68 ∷ 90 ∷ 913 ∷ 914 ∷ []
+
+abbrev linesA : List ℕ
+linesA = ascii "cost 92\nstart 0\ndoor 0 task 0 open 3\ndoor 1 task 1 open 2\n"
+
 -- ---- comparing
 
 abbrev sameAnswer : Answer ℕ → Answer ℕ → Bool
@@ -187,6 +194,10 @@ planning r cost cells bytes =
 abbrev planningRefuses : Planned → ℕ → Bool
 planningRefuses r n = sameAnswer (r .answer) (refused n) && sameList (r .cells) cellNoise && sameList (r .bytes) byteNoise
 
+-- printing writes so many bytes, and leaves this buffer and these cells
+abbrev printing : Printed → ℕ → List ℕ → List ℕ → Bool
+printing r written bytes cells = eqb (r .written) written && sameList (r .bytes) bytes && sameList (r .cells) cells
+
 -- ---- the check
 
 -- every starred line
@@ -219,7 +230,7 @@ checkStarred =
     && sameAnswer (validate sheetA (planLikeA 0 1 91)) (refused 34)
     && sameAnswer (validate paired planA) (refused 33)
     -- the print program
-    && sameList (printed sheetA) (ascii "cost 92\nstart 0\ndoor 0 task 0 open 3\ndoor 1 task 1 open 2\n")
+    && sameList (printed sheetA) linesA
 
 -- what the starred lines do not see: the unstarred lines on room, the numbers 10 to 15, plans written, read and in hand, refusals in print, and sheet B, whose figures are those of an
 -- enumeration made apart from these definitions
@@ -263,6 +274,8 @@ checkFurther =
     && sameList (overwriteAt 1 (7 ∷ 8 ∷ []) (1 ∷ 2 ∷ 3 ∷ 4 ∷ [])) (1 ∷ 7 ∷ 8 ∷ 4 ∷ [])
     && sameList (overwriteAt 2 (7 ∷ 8 ∷ []) (1 ∷ 2 ∷ 3 ∷ 4 ∷ [])) (1 ∷ 2 ∷ 7 ∷ 8 ∷ [])
     && sameList (overwriteAt 3 (7 ∷ 8 ∷ []) (1 ∷ 2 ∷ 3 ∷ 4 ∷ [])) (1 ∷ 2 ∷ 3 ∷ 4 ∷ [])
+    && eqb (writtenAt 2 (7 ∷ 8 ∷ []) (1 ∷ 2 ∷ 3 ∷ 4 ∷ [])) 2
+    && eqb (writtenAt 3 (7 ∷ 8 ∷ []) (1 ∷ 2 ∷ 3 ∷ 4 ∷ [])) 0
     -- the shortest sheet has 66 bytes, the longest 9,638
     && eqb (sheetLength kind1 (kind1 .fewest 1)) 66
     && eqb (sheetLength kind1 (kind1 .most maxPoints)) 9638
@@ -275,6 +288,10 @@ checkFurther =
     -- refusals in print
     && sameList (printed ringed) (ascii "refused 17\n")
     && sameList (printed (take 45 sheetA)) (ascii "refused 10\n")
+    -- printed into a buffer: A into 58 bytes and more, A into 57, and a refusal for want of cells
+    && printing (print sheetA cellNoise (byteNoise ++ byteNoise)) 58 (linesA ++ (220 ∷ 221 ∷ 222 ∷ 223 ∷ 224 ∷ 225 ∷ 226 ∷ 227 ∷ 228 ∷ 229 ∷ 230 ∷ 231 ∷ 232 ∷ 233 ∷ 234 ∷ 235 ∷ 236 ∷ 237 ∷ 238 ∷ 239 ∷ [])) cellsA
+    && printing (print sheetA cellNoise (take 57 (byteNoise ++ byteNoise))) 0 (take 57 (byteNoise ++ byteNoise)) cellsA
+    && printing (print sheetA (take 11 cellNoise) (take 11 byteNoise)) 11 (ascii "refused 20\n") (take 11 cellNoise)
     -- sheet B
     && planning (plan sheetB cellNoise byteNoise) 70007 (9 ∷ 4 ∷ 6 ∷ 7 ∷ 11 ∷ 92 ∷ 70025 ∷ 74809 ∷ 70009 ∷ 70030 ∷ 70314 ∷ 70007 ∷ []) planB
     && sameAnswer (validate sheetB planB) (accepted 70007)

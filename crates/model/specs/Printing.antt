@@ -5,14 +5,16 @@ use Prim.Native.Nat.{ℕ, zero, suc, _+_, _/_, _%_}
 use Prim.Native.Char.{code}
 use Prim.Native.String.{String, [] as noText, _∷_ as _then_}
 use lib.Dec.{ltb}
-use lib.ListN.{take}
+use lib.ListN.{length, take}
+use Rattle.model.specs.Folds.{mapBelow}
 use Rattle.model.specs.TaskList.{maskOf}
 use Rattle.model.specs.Sheet.{Sheet}
 use Rattle.model.specs.Plans.{Plan, planCost}
+use Rattle.model.specs.Bytes.{overwriteAt, writtenAt}
 use Rattle.model.specs.Answer.{Answer, refused, accepted}
 use Rattle.model.specs.SheetLayout.{maxPoints, kind1, sheetLength, decode}
 use Rattle.model.specs.PlanLayout.{maxPlanDoors, planLength}
-use Rattle.model.specs.Planning.{planFor}
+use Rattle.model.specs.Planning.{planFor, plan}
 
 -- ---- text
 
@@ -58,20 +60,36 @@ abbrev pub answerLines : Sheet → Answer Plan → List ℕ
 answerLines S (refused n) = refusalLine n
 answerLines S (accepted x) = planLines S x
 
+-- what is printed for the sheet b, planned with so many cells and with room for any plan
+unfoldable pub printedWith : ℕ → List ℕ → List ℕ
+printedWith cells b = answerLines (decode b) (planFor b cells (planLength maxPlanDoors))
+
+-- ---- the call, which is lent cells and a buffer
+
+-- how many bytes of the buffer were written, and buffer and cells afterwards
+pub record Printed : Type 0 where
+  pub written : ℕ
+  pub bytes : List ℕ
+  pub cells : List ℕ
+
+-- the text stands at the front of the buffer if it fits, and else nothing is written; the cells are as planning leaves them, either way
+unfoldable pub print : List ℕ → List ℕ → List ℕ → Printed
+print b cells buffer = record {
+  written = writtenAt 0 (printedWith (length cells) b) buffer;
+  bytes = overwriteAt 0 (printedWith (length cells) b) buffer;
+  cells = plan b cells (mapBelow (planLength maxPlanDoors) (λ i. 0)) .cells;
+}
+
 -- ---- the program
 
 -- it reads at most one byte more than the longest sheet has
 unfoldable pub printInput : ℕ
 printInput = suc (sheetLength kind1 (kind1 .most maxPoints))
 
--- it plans with this many cells, and with room for any plan
+-- it plans with this many cells
 abbrev pub printCells : ℕ
 printCells = 4096
 
--- what is printed for the sheet b
-unfoldable pub printedFor : List ℕ → List ℕ
-printedFor b = answerLines (decode b) (planFor b printCells (planLength maxPlanDoors))
-
 -- what is printed for what stands on standard input
 unfoldable pub printed : List ℕ → List ℕ
-printed input = printedFor (take printInput input)
+printed input = printedWith printCells (take printInput input)
