@@ -1,0 +1,62 @@
+// Texts and decimal numbers put into a buffer that is lent: one that does not fit is not written, and no byte of the buffer changes.
+ghost use mathlib.Core.Path.{_≡_};
+ghost use lib.ListN.{length};
+ghost use Rattle.model.specs.Bytes.{overwriteAt, writtenAt};
+ghost use Rattle.model.specs.Printing.{decimal};
+
+// Writes a text to the buffer from byte `at` on, if it fits, and answers how many bytes it wrote.
+pub fn put_text(out: &mut [u8], at: usize, text: &[u8]) -> usize
+    ensures written { λ r. ⌜ r ≡ writtenAt at (now (text .entry)) (now (out .entry)) ⌝ }
+    ensures bytes { λ r. ⌜ now (out .exit) ≡ overwriteAt at (now (text .entry)) (now (out .entry)) ⌝ }
+{
+    let n = text.len();
+    let room = out.len();
+    if room < at {
+        return 0;
+    }
+    if room - at < n {
+        return 0;
+    }
+    let mut i: usize = 0;
+    while i < n {
+        out[at + i] = text[i];
+        i = i + 1;
+    }
+    n
+}
+
+// How many digits a number has in decimal.
+fn digits(n: u64) -> usize
+    ensures { λ r. ⌜ r ≡ length (decimal n) ⌝ }
+{
+    let mut count: usize = 1;
+    let mut rest = n / 10;
+    while 0 < rest {
+        rest = rest / 10;
+        count = count + 1;
+    }
+    count
+}
+
+// Writes a number in decimal to the buffer from byte `at` on, if it fits, and answers how many bytes it wrote.
+pub fn put_number(out: &mut [u8], at: usize, n: u64) -> usize
+    ensures written { λ r. ⌜ r ≡ writtenAt at (decimal n) (now (out .entry)) ⌝ }
+    ensures bytes { λ r. ⌜ now (out .exit) ≡ overwriteAt at (decimal n) (now (out .entry)) ⌝ }
+{
+    let count = digits(n);
+    let room = out.len();
+    if room < at {
+        return 0;
+    }
+    if room - at < count {
+        return 0;
+    }
+    let mut rest = n;
+    let mut i: usize = 0;
+    while i < count {
+        out[at + (count - 1 - i)] = (48 + rest % 10) as u8;
+        rest = rest / 10;
+        i = i + 1;
+    }
+    count
+}
