@@ -1,0 +1,5 @@
+pub mod Laying
+pub mod Stepping
+pub mod Holding
+pub mod Answered
+pub mod Whole

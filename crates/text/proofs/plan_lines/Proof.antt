@@ -1,0 +1,73 @@
+-- The plan in hand has the doors and the cost that the bytes hold; its lines stand one behind the other. Assumes nothing.
+use native.Mathlib.Omega.{arith}
+use borrow.Author.Needs.{needs}
+use Rattle.text.proofs.Holding.{in-array, as-many-doors, steps, start-room, steps-room, plan-laid}
+use Rattle.text.proofs.plan_lines.Statement.{statement}
+use Rattle.text.proofs.plan_lines.Tie as tie
+
+tasks-requires : tie.Need-tasks-requires
+tasks-requires c κs = search needs
+
+in-hand-requires : tie.Need-in-hand-requires
+in-hand-requires c κs = search needs
+
+slice-aggregate-line : tie.Need-slice-aggregate-line
+slice-aggregate-line c = search needs
+
+line-requires : tie.Need-line-requires
+line-requires c κs = search needs
+
+slice-aggregate-line-2 : tie.Need-slice-aggregate-line-2
+slice-aggregate-line-2 c = search needs
+
+start-in-requires : tie.Need-start-in-requires
+start-in-requires c κs = search needs
+
+cast-line : tie.Need-cast-line
+cast-line c = search needs
+
+line-requires-2 : tie.Need-line-requires-2
+line-requires-2 c κs =
+    let s = c .before .before .before .before .before .before .before .before .before .before .before .before .before in
+    start-room (s .pre .0) (c .before .before .before .before .before .before .before .before .before .tasks .ensures) (c .before .before .before .before .before .before .before .before .in-hand .ensures) (c .before .before .before .before .before .line .ensures) (s .pre .1) (omega arith)
+
+cast-count : tie.Need-cast-count
+cast-count c = search needs
+
+array-share-prefix-doors : tie.Need-array-share-prefix-doors
+array-share-prefix-doors c = in-array (c .before .before .before .before .before .before .before .before .before .before .before .before .before .before .before .before .before .pre .0) (c .before .before .before .before .before .before .before .before .before .before .before .before .before .tasks .ensures) (c .before .before .before .before .before .before .before .before .before .before .before .before .in-hand .ensures)
+
+slice-aggregate-step-lines : tie.Need-slice-aggregate-step-lines
+slice-aggregate-step-lines c = as-many-doors (c .before .before .before .before .before .before .before .before .before .before .before .before .before .before .before .before .before .before .pre .0) (c .before .before .before .before .before .before .before .before .before .before .before .before .before .before .tasks .ensures) (c .before .before .before .before .before .before .before .before .before .before .before .before .before .in-hand .ensures)
+
+step-lines-requires : tie.Need-step-lines-requires
+step-lines-requires c κs =
+    let s = c .before .before .before .before .before .before .before .before .before .before .before .before .before .before .before .before .before .before .before in
+    let n = c .before .before .before .before .before .before .before .before .before .before .before .before .before .before .before .tasks .ensures in
+    let x = c .before .before .before .before .before .before .before .before .before .before .before .before .before .before .in-hand .ensures in
+    (steps (s .pre .0) n x, steps-room (s .pre .0) n x (c .before .before .before .before .before .before .before .before .before .before .before .line .ensures) (c .before .before .before .before .before .line2 .ensures) (s .pre .1) (omega arith) (omega arith))
+
+same-length : tie.Need-same-length
+same-length c = search needs
+
+returns : tie.Need-returns
+returns c = plan-laid (c .before .before .before .before .before .before .before .before .before .before .before .before .before .before .before .before .before .before .before .before .before .before .pre .0) (c .before .before .before .before .before .before .before .before .before .before .before .before .before .before .before .before .before .before .tasks .ensures) (c .before .before .before .before .before .before .before .before .before .before .before .before .before .before .before .before .before .in-hand .ensures) (c .before .before .before .before .before .before .before .before .before .before .before .before .before .before .line .ensures) (c .before .before .before .before .before .before .before .before .line2 .ensures) (c .before .before .before .before .before .before .before .before .before .start-in .ensures) (c .before .before .step-lines .ensures)
+
+pub plan-lines-spec : {M : Type 1} → statement M
+plan-lines-spec =
+    tie.close
+    (tie.spec
+    tasks-requires
+    in-hand-requires
+    slice-aggregate-line
+    line-requires
+    slice-aggregate-line-2
+    start-in-requires
+    cast-line
+    line-requires-2
+    cast-count
+    array-share-prefix-doors
+    slice-aggregate-step-lines
+    step-lines-requires
+    same-length
+    returns)

@@ -1,0 +1,106 @@
+// Text: all that the print program prints for a sheet, line by line.
+ghost use mathlib.Core.Path.{_≡_};
+ghost use Prim.Native.Nat.{_+_, _*_, _≤_};
+ghost use lib.ListN.{length};
+ghost use Rattle.model.specs.SheetLayout.{decode};
+ghost use Rattle.model.specs.PlanLayout.{maxPlanDoors};
+ghost use Rattle.model.specs.Printing.{stepLine, stepLines, planLines, printedWith, print};
+ghost use Rattle.text.specs.Lines.{labelled, lineOf, maxDigits, maxStep, maxText, Laid};
+ghost use Rattle.text.specs.Steps.{Steps, planIn, Held};
+use decimal::put_number;
+use decimal::put_text;
+use planner::Planning;
+
+// Room for the bytes of any plan.
+const PLAN_BYTES: usize = 56;
+
+// Room for all that is printed for any sheet: the lines of cost, start and twelve steps, with 20 digits for each number.
+pub const TEXT_BYTES: usize = 989;
+
+// Lays a label and a number into the buffer from byte `at` on, where there is room for any number, and answers where they end.
+fn labelled(out: &mut [u8], at: usize, label: &[u8], n: u64) -> usize
+    requires { ⌜ at + length (now label) + maxDigits ≤ length (now out) ⌝ }
+    ensures { λ r. ⌜ Laid at (labelled (now (label .entry)) n) (now (out .entry)) (now (out .exit)) r ⌝ }
+{
+    let behind = at + put_text(out, at, label);
+    behind + put_number(out, behind, n)
+}
+
+// The same with the end of the line behind them.
+fn line(out: &mut [u8], at: usize, label: &[u8], n: u64) -> usize
+    requires { ⌜ at + length (now label) + maxDigits + 1 ≤ length (now out) ⌝ }
+    ensures { λ r. ⌜ Laid at (lineOf (now (label .entry)) n) (now (out .entry)) (now (out .exit)) r ⌝ }
+{
+    let end = labelled(out, at, label, n);
+    end + put_text(out, end, b"\n")
+}
+
+// Lays the line of a step into the buffer from byte `at` on: door, task, and the list that is open before the step.
+fn step_line(out: &mut [u8], at: usize, door: u16, task: u16, left: u32) -> usize
+    requires { ⌜ at + maxStep ≤ length (now out) ⌝ }
+    ensures { λ r. ⌜ Laid at (stepLine door task left) (now (out .entry)) (now (out .exit)) r ⌝ }
+{
+    let behind_door = labelled(out, at, b"door ", door as u64);
+    let behind_task = labelled(out, behind_door, b" task ", task as u64);
+    line(out, behind_task, b" open ", left as u64)
+}
+
+// Lays a line for each step into the buffer from byte `at` on: the first n of the doors, which complete the full list of n tasks.
+fn step_lines(s: &[u8], doors: &[u16], out: &mut [u8], at: usize) -> usize
+    requires { ⌜ Steps (now s) (now doors) × (at + maxStep * maxPlanDoors ≤ length (now out)) ⌝ }
+    ensures { λ r. ⌜ Laid at (stepLines (decode (now (s .entry))) (now (doors .entry))) (now (out .entry)) (now (out .exit)) r ⌝ }
+{
+    let n = doors.len();
+    let mut left = tasklist::full(field::tasks(s));
+    let mut end = at;
+    let mut i: usize = 0;
+    while i < n {
+        let d = doors[i];
+        let t = field::task(s, d);
+        let after = tasklist::without(left, t);
+        end = step_line(out, end, d, t, left);
+        left = after;
+        i = i + 1;
+    }
+    end
+}
+
+// Lays the lines of a plan into the buffer: the cost, the start and the steps of the plan that the bytes q hold.
+fn plan_lines(s: &[u8], q: &[u8], out: &mut [u8]) -> usize
+    requires { ⌜ Held (now s) (now q) × (maxText ≤ length (now out)) ⌝ }
+    ensures { λ r. ⌜ Laid 0 (planLines (decode (now (s .entry))) (planIn (now (s .entry)) (now (q .entry)))) (now (out .entry)) (now (out .exit)) r ⌝ }
+{
+    let n = field::tasks(s);
+    let x = plan::in_hand(n, q);
+    let behind_cost = line(out, 0, b"cost ", x.cost);
+    let behind_start = line(out, behind_cost, b"start ", plan::start_in(q) as u64);
+    let doors = x.doors;
+    let count = n as usize;
+    step_lines(s, &doors[..count], out, behind_start)
+}
+
+// Lays all that is printed for a sheet into the buffer, which has room for any of it: the lines of its plan or of the refusal.
+fn lines(s: &[u8], cells: &mut [u64], out: &mut [u8]) -> usize
+    requires { ⌜ maxText ≤ length (now out) ⌝ }
+    ensures text { λ r. ⌜ Laid 0 (printedWith (length (now (cells .entry))) (now (s .entry))) (now (out .entry)) (now (out .exit)) r ⌝ }
+    ensures cells { λ r. ⌜ now (cells .exit) ≡ print (now (s .entry)) (now (cells .entry)) (now (out .entry)) .cells ⌝ }
+{
+    let mut q = [0u8; PLAN_BYTES];
+    let planning = planner::plan(s, cells, &mut q);
+    match planning {
+        Planning::Planned(_) => plan_lines(s, &q, out),
+        Planning::Refused(refusal) => line(out, 0, b"refused ", planner::number_of(refusal) as u64),
+    }
+}
+
+// Prints a sheet: plans it in the cells, and writes what the print program prints to the front of the buffer, if it fits. Answers how many bytes it wrote;
+// a buffer that is too short stays as it is, and the answer is 0.
+pub fn print(s: &[u8], cells: &mut [u64], out: &mut [u8]) -> usize
+    ensures written { λ r. ⌜ r ≡ print (now (s .entry)) (now (cells .entry)) (now (out .entry)) .written ⌝ }
+    ensures bytes { λ r. ⌜ now (out .exit) ≡ print (now (s .entry)) (now (cells .entry)) (now (out .entry)) .bytes ⌝ }
+    ensures cells { λ r. ⌜ now (cells .exit) ≡ print (now (s .entry)) (now (cells .entry)) (now (out .entry)) .cells ⌝ }
+{
+    let mut text = [0u8; TEXT_BYTES];
+    let end = lines(s, cells, &mut text);
+    put_text(out, 0, &text[..end])
+}
