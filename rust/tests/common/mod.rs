@@ -15,6 +15,7 @@ pub mod layout;
 pub mod lent;
 pub mod orders;
 pub mod plan;
+pub mod printing;
 pub mod reading;
 pub mod rng;
 pub mod rounds;

@@ -1,0 +1,186 @@
+//! Every refusal that the program can print: each number alone, and the lowest where several apply.
+
+use super::program::{check, refuses};
+use crate::common::examples::{plain, sheet_a, Entries, FEWEST, MOST};
+use crate::common::faulty::{short_with_faults, with_faults};
+use crate::common::layout::{body_number, entries, offset, KIND};
+use crate::common::printing::sheet_to_plan;
+use crate::common::reading::{faults, NUMBERS};
+use crate::common::rng::Rng;
+use crate::common::sheet::Sheet;
+use crate::common::valid::{valid, Size, ANY};
+
+#[test]
+fn each_number_alone() {
+    for number in NUMBERS {
+        for seed in 0..25 {
+            let mut rng = Rng::new(seed);
+            let input = match number {
+                10 => short_with_faults(&mut rng, &[]),
+                _ => with_faults(&mut rng, &[number]),
+            };
+            let case = format_args!("seed {seed}");
+            assert_eq!(faults(&input), [number], "{case}");
+            refuses(number, &input, case);
+        }
+    }
+}
+
+#[test]
+fn the_lower_of_two() {
+    for lower in NUMBERS {
+        for higher in lower + 1..=17 {
+            if lower == 10 && higher >= 14 {
+                // A sheet of fewer than 46 bytes has no entries.
+                continue;
+            }
+            for seed in 0..6 {
+                let mut rng = Rng::new(seed);
+                let input = match lower {
+                    10 => short_with_faults(&mut rng, &[higher]),
+                    _ => with_faults(&mut rng, &[lower, higher]),
+                };
+                let case = format_args!("seed {seed}");
+                assert_eq!(faults(&input), [lower, higher], "{case}");
+                refuses(lower, &input, case);
+            }
+        }
+    }
+}
+
+#[test]
+fn the_lowest_of_many() {
+    for lowest in 11..=17 {
+        let numbers: Vec<u32> = (lowest..=17).collect();
+        for seed in 0..6 {
+            let input = with_faults(&mut Rng::new(seed), &numbers);
+            let case = format_args!("seed {seed}");
+            assert_eq!(faults(&input), numbers, "{case}");
+            refuses(lowest, &input, case);
+        }
+    }
+}
+
+/// More than 4,096 cells are needed: 2^7 times 33 or more.
+const TOO_LARGE: Size = Size {
+    tasks: (7, 12),
+    points: (33, 64),
+    ..ANY
+};
+
+#[test]
+fn too_few_cells() {
+    for seed in 0..30 {
+        let sheet = valid(&mut Rng::new(seed), TOO_LARGE).encode();
+        let case = format_args!("seed {seed}");
+        assert_eq!(sheet_to_plan(&sheet), Err(20), "{case}");
+        refuses(20, &sheet, case);
+    }
+    // As few entries of every other body as there can be.
+    for (tasks, points) in [(7, 33), (8, 17), (9, 9), (10, 5), (11, 3), (12, 2)] {
+        let sheet = plain(Entries {
+            tasks,
+            doors: tasks,
+            points,
+            distances: points * points,
+            ..FEWEST
+        });
+        let case = format_args!("{tasks} tasks, {points} points");
+        refuses(20, &sheet.encode(), case);
+    }
+}
+
+/// A sheet that needs too many cells, with a fault of its own: the number of the fault comes first.
+#[test]
+fn too_few_cells_and_a_fault() {
+    for seed in 0..5 {
+        let sheet = valid(&mut Rng::new(seed), TOO_LARGE);
+        let with = |change: &dyn Fn(&mut Sheet)| {
+            let mut changed = sheet.clone();
+            change(&mut changed);
+            changed.encode()
+        };
+        let whole = sheet.encode();
+        let (tasks, points) = (sheet.tasks.len() as u16, sheet.points.len() as u16);
+        let door = sheet.doors[0];
+        for (number, input) in [
+            (10, whole[..45].to_vec()),
+            (11, with(&|sheet| sheet.kind = 2)),
+            (12, with(&|sheet| sheet.doors.resize(65, door))),
+            (13, [&whole[..], &[0]].concat()),
+            (13, whole[..whole.len() - 1].to_vec()),
+            (14, with(&|sheet| sheet.starts[0] = points)),
+            (14, with(&|sheet| sheet.doors[0].arrival = points)),
+            (14, with(&|sheet| sheet.pairs = vec![(0, tasks)])),
+            (15, with(&|sheet| give_away_task_0(sheet))),
+            (16, with(&|sheet| make_too_light(sheet))),
+            (17, with(&|sheet| sheet.pairs = vec![(0, 1), (1, 0)])),
+        ] {
+            refuses(number, &input, format_args!("seed {seed}"));
+        }
+    }
+}
+
+fn give_away_task_0(sheet: &mut Sheet) {
+    for door in sheet.doors.iter_mut().filter(|door| door.task == 0) {
+        door.task = 1;
+    }
+}
+
+fn make_too_light(sheet: &mut Sheet) {
+    sheet.tasks[0] = -1;
+    sheet.end_load = (sheet.picked_up() - 1).min(65_535) as u16;
+}
+
+/// Each of these fields of sheet A is set to a value that is wrong for it.
+#[test]
+fn one_field_of_sheet_a() {
+    let written = sheet_a().written();
+    let of_door = |name: &str| {
+        let mut fields = written.fields.iter();
+        let field = fields.find(|field| field.body == 2 && field.name == name);
+        *field.expect("a field of door 0")
+    };
+    for (number, field, value) in [
+        (11, KIND, 0),
+        (11, KIND, 2),
+        (11, KIND, 257),
+        (12, entries(1), 0),
+        (12, entries(1), 13),
+        (12, entries(2), 0),
+        (12, entries(2), 65),
+        (12, entries(3), 0),
+        (12, entries(3), 17),
+        (12, entries(4), 33),
+        (12, entries(5), 33),
+        (12, entries(6), 0),
+        (12, entries(6), 65),
+        (12, entries(7), 8),
+        (13, entries(1), 1),
+        (13, body_number(1), 0),
+        (13, body_number(7), 8),
+        (13, offset(1), 45),
+        (13, offset(7), 85),
+        (14, of_door("task"), 2),
+        (14, of_door("arrival point"), 3),
+        (14, of_door("departure point"), 0xffff),
+        (15, of_door("task"), 1),
+    ] {
+        let mut input = written.bytes.clone();
+        field.put(&mut input, value);
+        refuses(number, &input, format_args!("{field} set to {value}"));
+    }
+}
+
+/// A plan of twelve steps has 56 bytes, and there is room for it: 21 is not printed for the longest plans that need
+/// no more than 4,096 cells.
+#[test]
+fn no_plan_is_too_long() {
+    let sheet = plain(Entries {
+        points: 1,
+        distances: 1,
+        ..MOST
+    });
+    let number = check(&sheet.encode(), format_args!("twelve tasks"));
+    assert_eq!(number, 0);
+}
