@@ -27,7 +27,7 @@ use Rattle.model.proofs.Planning.{plannable}
 use Rattle.model.proofs.Starts.{solution-completes}
 use Rattle.model.proofs.Printing.{prints-refusal, prints-plan}
 use Rattle.text.specs.Lines.{labelled, lineOf}
-use Rattle.text.specs.Steps.{Steps, planIn, Held}
+use Rattle.text.specs.Steps.{Steps, planIn, Printable}
 
 -- ---- a plan at the front of longer bytes
 
@@ -69,7 +69,7 @@ module _ {b : List ℕ} (bytes : areBytes b ≡ true) {x : Plan} {c : ℕ} (read
   }
 
   -- which can be printed
-  pub can-print : Held b q
+  pub can-print : Printable b q
   unfolding overwrite
   can-print = record {
     steps = rw held-is (record {
@@ -102,7 +102,7 @@ module _ (b cells : List ℕ) where
 
   -- a plan as the bytes hold it
   module _ (bytes : areBytes b ≡ true) {c : ℕ} {q : List ℕ} (e : accepted c ≡ plan b cells noPlan .answer) (w : q ≡ plan b cells noPlan .bytes) where
-    pub plan-held : Held b q
+    pub plan-held : Printable b q
     plan-held = let g = prints-plan b cells noPlan as-long c (sym e) in can-print bytes (g .4) (g .5) (g .1) q noPlan (w ∙ g .3)
 
     pub plan-printed : printedWith (length cells) b ≡ planLines (decode b) (planIn b q)

@@ -12,13 +12,13 @@ use Rattle.model.specs.PlanInHand.{PlanInHand, inHand}
 use Rattle.model.specs.Printing.{ascii, decimal, lineEnd, stepLines, planLines}
 use Rattle.model.proofs.InHand.{read-holds, in-hand-doors, in-hand-cost}
 use Rattle.text.specs.Lines.{labelled, lineOf, maxDigits, maxStep, maxText, Laid}
-use Rattle.text.specs.Steps.{Steps, planIn, Held}
+use Rattle.text.specs.Steps.{Steps, planIn, Printable}
 use Rattle.text.proofs.Laying.{behind, laid-on, long-line}
 
 regroup : (a b c d e f g : List ℕ) → (a ++ b ++ c) ++ (d ++ e ++ f) ++ g ≡ a ++ b ++ c ++ d ++ e ++ f ++ g
 regroup a b c d e f g = simp append-assoc
 
-module _ {b q : List ℕ} (H : Held b q) {n : ℕ} {x : PlanInHand} (en : n ≡ decode b .tasks) (ex : x ≡ inHand n q) where
+module _ {b q : List ℕ} (H : Printable b q) {n : ℕ} {x : PlanInHand} (en : n ≡ decode b .tasks) (ex : x ≡ inHand n q) where
   few : n ≤ maxPlanDoors
   few = rw en (H .steps .few)
 

@@ -22,6 +22,6 @@ unfoldable pub planIn : List ℕ → List ℕ → Plan
 planIn b q = record { start = startIn q; doors = doorsIn (decode b .tasks) q }
 
 -- the lines of a plan: those of its steps, and the cost that the bytes hold is its cost
-pub record Held (b q : List ℕ) : Type 0 where
+pub record Printable (b q : List ℕ) : Type 0 where
   pub steps : Steps b (planIn b q .doors)
   pub right : costIn (decode b .tasks) q ≡ planCost (decode b) (planIn b q)

@@ -6,7 +6,7 @@ ghost use Rattle.model.specs.SheetLayout.{decode};
 ghost use Rattle.model.specs.PlanLayout.{maxPlanDoors};
 ghost use Rattle.model.specs.Printing.{stepLine, stepLines, planLines, printedWith, print};
 ghost use Rattle.text.specs.Lines.{labelled, lineOf, maxDigits, maxStep, maxText, Laid};
-ghost use Rattle.text.specs.Steps.{Steps, planIn, Held};
+ghost use Rattle.text.specs.Steps.{Steps, planIn, Printable};
 use decimal::put_number;
 use decimal::put_text;
 use planner::Planning;
@@ -67,7 +67,7 @@ fn step_lines(s: &[u8], doors: &[u16], out: &mut [u8], at: usize) -> usize
 
 // Lays the lines of a plan into the buffer: the cost, the start and the steps of the plan that the bytes q hold.
 fn plan_lines(s: &[u8], q: &[u8], out: &mut [u8]) -> usize
-    requires { ⌜ Held (now s) (now q) × (maxText ≤ length (now out)) ⌝ }
+    requires { ⌜ Printable (now s) (now q) × (maxText ≤ length (now out)) ⌝ }
     ensures { λ r. ⌜ Laid 0 (planLines (decode (now (s .entry))) (planIn (now (s .entry)) (now (q .entry)))) (now (out .entry)) (now (out .exit)) r ⌝ }
 {
     let n = field::tasks(s);
