@@ -14,7 +14,7 @@ use Rattle.model.specs.PlanLayout.{writePlan, PlanRead, readPlan}
 use Rattle.model.specs.PlanInHand.{PlanInHand, noDoors, withDoors, inHand}
 use Rattle.model.specs.Validating.{validate}
 use Rattle.model.specs.Planning.{Planned, plan}
-use Rattle.model.specs.Printing.{ascii, Printed, print, printed}
+use Rattle.model.specs.Printing.{ascii, Printed, print, printInput, printCells, printed}
 
 -- ---- the sheets
 
@@ -288,6 +288,9 @@ checkFurther =
     -- refusals in print
     && sameList (printed ringed) (ascii "refused 17\n")
     && sameList (printed (take 45 sheetA)) (ascii "refused 10\n")
+    -- the print program's cells, and the bytes that it reads at most
+    && eqb printCells 4096
+    && eqb printInput 9639
     -- printed into a buffer: A into 58 bytes and more, A into 57, and a refusal for want of cells
     && printing (print sheetA cellNoise (byteNoise ++ byteNoise)) 58 (linesA ++ (220 ∷ 221 ∷ 222 ∷ 223 ∷ 224 ∷ 225 ∷ 226 ∷ 227 ∷ 228 ∷ 229 ∷ 230 ∷ 231 ∷ 232 ∷ 233 ∷ 234 ∷ 235 ∷ 236 ∷ 237 ∷ 238 ∷ 239 ∷ [])) cellsA
     && printing (print sheetA cellNoise (take 57 (byteNoise ++ byteNoise))) 0 (take 57 (byteNoise ++ byteNoise)) cellsA
