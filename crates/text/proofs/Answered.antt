@@ -1,20 +1,19 @@
 -- What planning left in a buffer with room for any plan is printed: a refusal as its line, and a plan as it stands in the bytes. Assumes nothing.
-use mathlib.Core.Path.{_≡_, refl, sym, ap, _∙_}
+use mathlib.Core.Path.{_≡_, sym, ap, _∙_}
 use mathlib.Core.Bool.{true}
 use mathlib.Core.Option.{some}
 use mathlib.Core.List.{List, [], _∷_, _++_}
-use Prim.Native.Nat.{ℕ, _+_, _*_, _^_, _≤_, _<_}
+use Prim.Native.Nat.{ℕ, _+_, _*_, _^_, _<_}
 use native.Mathlib.Omega.{arith}
-use lib.ListN.{length, getD, drop}
+use lib.ListN.{length, getD}
 use lib.Pow.{areBytes}
 use Rattle.model.specs.Folds.{mapBelow}
-use Rattle.model.specs.TaskList.{full}
-use Rattle.model.specs.Plans.{Plan, isSolution, planCost, cheapest, isCompletion}
+use Rattle.model.specs.Plans.{Plan, planCost, cheapest}
 use Rattle.model.specs.Bytes.{overwrite}
 use Rattle.model.specs.Answer.{refused, accepted}
-use Rattle.model.specs.SheetLayout.{decode, lineAt}
+use Rattle.model.specs.SheetLayout.{decode}
 use Rattle.model.specs.PlanLayout.{maxPlanDoors, planStartAt, planDoorsAt, planCostAt, planLength, planBytes, startIn, doorIn, doorsIn, costIn}
-use Rattle.model.specs.Planning.{Planned, plan}
+use Rattle.model.specs.Planning.{plan}
 use Rattle.model.specs.Printing.{ascii, refusalLine, planLines, printedWith, print}
 use Rattle.model.proofs.Folds.{flat-cong, length-mapBelow}
 use Rattle.model.proofs.Numbers.{number-front}
@@ -22,12 +21,12 @@ use Rattle.model.proofs.Reading.{Reads, counts-read}
 use Rattle.model.proofs.Solutions.{Solution, solution, solution-length, solution-fits}
 use Rattle.model.proofs.Cheapest.{cheapest-solution}
 use Rattle.model.proofs.Bounds.{round-small}
-use Rattle.model.proofs.PlanBytes.{length-plan, length-doors, start-again, doors-again, cost-again}
+use Rattle.model.proofs.PlanBytes.{length-plan, start-again, doors-again, cost-again}
 use Rattle.model.proofs.Planning.{plannable}
 use Rattle.model.proofs.Starts.{solution-completes}
 use Rattle.model.proofs.Printing.{prints-refusal, prints-plan}
 use Rattle.text.specs.Lines.{labelled, lineOf}
-use Rattle.text.specs.Steps.{Steps, planIn, Printable}
+use Rattle.text.specs.Steps.{planIn, Printable}
 
 -- ---- a plan at the front of longer bytes
 

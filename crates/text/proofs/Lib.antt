@@ -3,3 +3,4 @@ pub mod Stepping
 pub mod Holding
 pub mod Answered
 pub mod Whole
+pub mod Fitting

@@ -1,14 +1,13 @@
 -- The lines of the steps, one after the other: those that are laid, and those of the doors that are left, which complete the list that is left. Assumes nothing.
 use mathlib.Core.Path.{_≡_, refl, sym, ap, ap₂, _∙_}
 use mathlib.Core.Bool.{true, _&&_}
-use mathlib.Core.List.{List, [], _∷_, _++_, map, append-assoc, append-nil}
+use mathlib.Core.List.{List, [], _∷_, _++_, append-assoc, append-nil}
 use Prim.Native.Nat.{ℕ, _+_, _*_, _^_, _≤_, _<_}
 use native.Mathlib.Omega.{arith}
 use lib.Dec.{ltb}
 use lib.ListN.{length, getD, drop, length-append, drop-of-length-le}
 use lib.Pow.{pow-mono}
-use Rattle.model.specs.TaskList.{without, full, fullOf, maskOf}
-use Rattle.model.specs.Sheet.{Sheet}
+use Rattle.model.specs.TaskList.{without, full, fullOf}
 use Rattle.model.specs.Orders.{canComeFirst}
 use Rattle.model.specs.Plans.{isCompletion}
 use Rattle.model.specs.SheetLayout.{decode}

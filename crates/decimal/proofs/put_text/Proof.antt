@@ -2,7 +2,6 @@
 use mathlib.Core.Path.{refl}
 use Prim.Native.Nat.{_-_}
 use native.Mathlib.Omega.{arith}
-use lib.ListN.{length}
 use borrow.Author.Needs.{needs}
 use Rattle.decimal.proofs.Placing.{unwritten, as-many, Copied, none-copied, same-room, one-copied, all-copied}
 use Rattle.decimal.proofs.put_text.Statement.{statement}
