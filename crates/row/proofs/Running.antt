@@ -1,17 +1,21 @@
 -- The cost through a door, the least over the doors passed, and the cells of a row: what the loops of a row ask. Assumes nothing.
-use mathlib.Core.Path.{_≡_, refl, ap, _∙_}
+use mathlib.Core.Path.{_≡_, refl, ap, ap₂, _∙_}
 use mathlib.Core.List.{List}
-use Prim.Native.Nat.{ℕ, _+_, _*_, _^_, _≤_, _<_}
+use Prim.Native.Nat.{ℕ, zero, suc, _+_, _-_, _*_, _^_, _≤_, _<_, min}
+use native.Mathlib.Nat.{add-suc}
 use native.Mathlib.Numerals.{add-one}
 use native.Mathlib.Omega.{arith}
-use lib.ListN.{length, getD, set}
+use lib.ListN.{length, getD, set, take, drop, length-drop}
+use lib.Seq.{take-all, getD-drop}
 use Rattle.model.specs.Sheet.{Sheet}
 use Rattle.model.specs.Folds.{mapBelow}
+use Rattle.model.specs.Bytes.{numberAt}
 use Rattle.model.specs.SheetLayout.{decode}
 use Rattle.model.proofs.Arrays.{Filled, one-filled, all-filled}
 use Rattle.view.specs.declared.View.{View}
-use Rattle.view.specs.Views.{Viewed}
-use Rattle.row.specs.Leasts.{largest, leastBelow, throughPoint, throughGathered, leastFrom, Gathered}
+use Rattle.view.specs.Views.{distancesAt, Viewed}
+use Rattle.view.proofs.Within.{row-within, row-is}
+use Rattle.row.specs.Leasts.{largest, leastBelow, throughPoint, throughPart, PartDoor, throughGathered, leastFrom, Gathered}
 
 -- ---- the cost through a door
 
@@ -36,6 +40,38 @@ pub gathered-cost : (S : Sheet) (load : ℕ) (arrivals parts : List ℕ) (p i : 
 unfolding throughGathered
 gathered-cost S load arrivals parts p i e = e
 
+-- the same read from the part of the sheet that begins with the distances from p
+number-drop : (k n : ℕ) (b : List ℕ) (i : ℕ) → numberAt k (drop n b) i ≡ numberAt k b (n + i)
+unfolding numberAt
+number-drop zero n b i = refl
+number-drop (suc k) n b i = rw (getD-drop n b i 0, ← add-suc n i) (ap (λ (x : ℕ). getD b (n + i) 0 + 256 * x) (number-drop k n b (suc i)))
+
+-- the part of the sheet from byte n on, as the code takes it
+abbrev pub partFrom : ℕ → List ℕ → List ℕ
+partFrom n b = take (length b - n) (drop n b)
+
+part-is : (n : ℕ) (b : List ℕ) → partFrom n b ≡ drop n b
+part-is n b = take-all (length b - n) (drop n b) (rw length-drop (omega arith))
+
+pub part-begins : {b : List ℕ} {v : View} → Viewed b v → (p : ℕ) → p < decode b .points → {from : ℕ} → from ≡ distancesAt v p → from ≤ length b
+part-begins h p l e = omega (arith, e, row-within h p p l l)
+
+module _ {b : List ℕ} {v : View} {load : ℕ} {arrivals parts : List ℕ} (h : Gathered b v load arrivals parts) (p i : ℕ) (lp : p < decode b .points) (li : i < length parts)
+    {from : ℕ} (e : from ≡ distancesAt v p) where
+  read-is : numberAt 2 (partFrom from b) (getD arrivals i 0 * 2) ≡ decode b .distance p (getD arrivals i 0)
+  read-is = ap (λ (x : List ℕ). numberAt 2 x (getD arrivals i 0 * 2)) (part-is from b) ∙ number-drop 2 from b _ ∙ rw e (row-is (h .view) p (getD arrivals i 0) lp (h .arrival i li))
+
+  pub part-door : PartDoor (partFrom from b) load (getD arrivals i 0) (getD parts i 0)
+  unfolding throughPart
+  part-door = record {
+    within = rw (part-is from b, length-drop) (omega (arith, e, row-within (h .view) p (getD arrivals i 0) lp (h .arrival i li)));
+    fits = through-fits (decode b) load p (getD arrivals i 0) (getD parts i 0) read-is (gathered-door h p i lp li .3);
+  }
+
+  pub part-cost : throughPart (partFrom from b) load (getD arrivals i 0) (getD parts i 0) ≡ throughGathered (decode b) load arrivals parts p i
+  unfolding throughPart
+  part-cost = gathered-cost (decode b) load arrivals parts p i (through-is (decode b) load p (getD arrivals i 0) (getD parts i 0) read-is)
+
 -- ---- the least so far
 
 -- the least of f i over the i passed is `best`
@@ -52,6 +88,10 @@ module _ {f : ℕ → ℕ} {i best c : ℕ} (r : Running f i best) (e : c ≡ f 
 
   pub next-kept : best ≤ c → Running f (i + 1) best
   next-kept h = record { is = rw add-one (omega arith) }
+
+-- the lesser of the two
+pub next-least : {f : ℕ → ℕ} {i best c next : ℕ} → Running f i best → c ≡ f i → next ≡ min best c → Running f (i + 1) next
+next-least r e n = record { is = rw add-one (n ∙ ap₂ min (r .is) e) }
 
 pub all-passed : (S : Sheet) (load : ℕ) (arrivals parts : List ℕ) (p : ℕ) {i best : ℕ} → Running (throughGathered S load arrivals parts p) i best
     → i ≡ length parts → best ≡ leastFrom S load arrivals parts p

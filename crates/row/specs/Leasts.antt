@@ -1,9 +1,10 @@
 -- The least over gathered doors: the cost from a point through each of them, and what a row of the table asks (01, Working; 000, (4.7)). Assumes nothing.
 use mathlib.Core.Path.{_≡_}
 use mathlib.Core.List.{List}
-use Prim.Native.Nat.{ℕ, zero, suc, _+_, _-_, _*_, _^_, _<_, min}
+use Prim.Native.Nat.{ℕ, zero, suc, _+_, _-_, _*_, _^_, _≤_, _<_, min}
 use lib.ListN.{length, getD}
 use Rattle.model.specs.Sheet.{Sheet}
+use Rattle.model.specs.Bytes.{numberAt}
 use Rattle.model.specs.SheetLayout.{decode}
 use Rattle.view.specs.declared.View.{View}
 use Rattle.view.specs.Views.{Viewed}
@@ -20,6 +21,15 @@ leastBelow (suc n) f = min (leastBelow n f) (f n)
 -- from point p through a door that arrives at q: the distance times the load, and the part of its cost that does not hang on the point
 unfoldable pub throughPoint : Sheet → ℕ → ℕ → ℕ → ℕ → ℕ
 throughPoint S load p q part = S .distance p q * load + part
+
+-- the same from the point whose distances the bytes begin with
+unfoldable pub throughPart : List ℕ → ℕ → ℕ → ℕ → ℕ
+throughPart here load q part = numberAt 2 here (q * 2) * load + part
+
+-- what that asks: a distance that is in the bytes, and a sum that fits
+pub record PartDoor (here : List ℕ) (load q part : ℕ) : Type 0 where
+  pub within : q * 2 + 2 ≤ length here
+  pub fits : throughPart here load q part < 2 ^ 64
 
 -- the same through the i-th of the gathered doors
 unfoldable pub throughGathered : Sheet → ℕ → List ℕ → List ℕ → ℕ → ℕ → ℕ

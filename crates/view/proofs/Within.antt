@@ -13,7 +13,7 @@ use Rattle.model.proofs.Passing.{field-within}
 use Rattle.field.specs.Places.{placesOf}
 use Rattle.field.proofs.Fields.{at-place}
 use Rattle.view.specs.declared.View.{View}
-use Rattle.view.specs.Views.{viewOf, Viewed}
+use Rattle.view.specs.Views.{viewOf, distancesAt, Viewed}
 
 -- field f of entry e of body i, where `place` is the body's
 pub within : (i f e : ℕ) {b : List ℕ} {v : View} {place : ℕ} → Viewed b v → place ≡ bodyAt kind1 b i → i < bodies → e < entries b i
@@ -35,3 +35,14 @@ module _ {b : List ℕ} {v : View} (h : Viewed b v) (p q : ℕ) (lp : p < decode
   distance-is r e =
       at-place distancesBody 0 (p * decode b .points + q) b (v .at .distances) r (ap (λ (x : View). x .at .distances) (h .is))
       (e ∙ ap (λ (n : ℕ). numberAt 2 b (v .at .distances + (p * n + q) * 2)) (ap (λ (x : View). x .points) (h .is)) ∙ ap (numberAt 2 b) (sym (add-zero _)))
+
+  -- counted from where the distances from p begin
+  place-is : v .at .distances + (p * v .points + q) * 2 ≡ distancesAt v p + q * 2
+  unfolding distancesAt
+  place-is = omega arith
+
+  pub row-within : distancesAt v p + q * 2 + 2 ≤ length b
+  row-within = rw (← place-is) distance-within
+
+  pub row-is : numberAt 2 b (distancesAt v p + q * 2) ≡ decode b .distance p q
+  row-is = distance-is _ (ap (numberAt 2 b) (sym place-is))

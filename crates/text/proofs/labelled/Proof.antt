@@ -10,7 +10,7 @@ use Rattle.text.proofs.labelled.Statement.{statement}
 use Rattle.text.proofs.labelled.Tie as tie
 
 put-text-requires : tie.Need-put-text-requires
-put-text-requires c κs = search needs
+put-text-requires c κs = tt
 
 -- the label, and the number behind it
 label-laid : (c : tie.After-put-text) →
@@ -39,7 +39,7 @@ add-behind : tie.Need-add-behind
 add-behind c = record { fits = omega (arith, label-laid (c .before .before) .within) }
 
 put-number-requires : tie.Need-put-number-requires
-put-number-requires c κs = search needs
+put-number-requires c κs = tt
 
 add-result : tie.Need-add-result
 add-result c = record { fits = omega (arith, both-laid (c .before .before) .within) }

@@ -16,7 +16,7 @@ slice-aggregate-put-text : tie.Need-slice-aggregate-put-text
 slice-aggregate-put-text c = search needs
 
 put-text-requires : tie.Need-put-text-requires
-put-text-requires c κs = search needs
+put-text-requires c κs = tt
 
 room : (c : tie.Start) → c .args .at + length (labelled (c .args .label .now) (c .args .n)) + 1 ≤ length (c .args .out .now)
 room c = omega (arith, long-label (c .args .label .now) _ (c .fits .n .fits))

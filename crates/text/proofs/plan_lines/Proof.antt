@@ -6,10 +6,10 @@ use Rattle.text.proofs.plan_lines.Statement.{statement}
 use Rattle.text.proofs.plan_lines.Tie as tie
 
 tasks-requires : tie.Need-tasks-requires
-tasks-requires c κs = search needs
+tasks-requires c κs = tt
 
 in-hand-requires : tie.Need-in-hand-requires
-in-hand-requires c κs = search needs
+in-hand-requires c κs = tt
 
 slice-aggregate-line : tie.Need-slice-aggregate-line
 slice-aggregate-line c = search needs
@@ -21,7 +21,7 @@ slice-aggregate-line-2 : tie.Need-slice-aggregate-line-2
 slice-aggregate-line-2 c = search needs
 
 start-in-requires : tie.Need-start-in-requires
-start-in-requires c κs = search needs
+start-in-requires c κs = tt
 
 cast-line : tie.Need-cast-line
 cast-line c = search needs

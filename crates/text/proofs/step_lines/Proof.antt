@@ -14,10 +14,10 @@ abbrev μ-loop : tie.MeasureT-loop
 μ-loop s doors out₀ at n left₀ end₀ i₀ out left end i = n - i
 
 tasks-requires : tie.Need-tasks-requires Inv-loop μ-loop
-tasks-requires c κs = search needs
+tasks-requires c κs = tt
 
 full-requires : tie.Need-full-requires Inv-loop μ-loop
-full-requires c κs = search needs
+full-requires c κs = tt
 
 loop-holds : tie.Need-loop-holds Inv-loop μ-loop
 loop-holds c =
@@ -31,10 +31,10 @@ shared-slice-read-d : tie.Need-shared-slice-read-d Inv-loop μ-loop
 shared-slice-read-d c = search needs
 
 task-requires : tie.Need-task-requires Inv-loop μ-loop
-task-requires c κs = search needs
+task-requires c κs = tt
 
 without-requires : tie.Need-without-requires Inv-loop μ-loop
-without-requires c κs = search needs
+without-requires c κs = tt
 
 step-line-requires : tie.Need-step-line-requires Inv-loop μ-loop
 step-line-requires c κs =
