@@ -1,0 +1,93 @@
+//! Small sheets and plans to compare the calls on, among them some for every refusal.
+
+use crate::calls::Calls;
+use crate::common::corrupt::change_some_field;
+use crate::common::faulty::{short_with_faults, with_faults};
+use crate::common::judging::cost;
+use crate::common::plan::{plan_len, Plan};
+use crate::common::reading::NUMBERS;
+use crate::common::rng::Rng;
+use crate::common::sheet::Sheet;
+use crate::common::valid::{make_small, valid, ROOMY, SMALL};
+use crate::compare::{Comparison, Room};
+
+/// Seeds of each kind of case.
+const SEEDS: u64 = 100;
+
+/// Sheets that read, sheets with each fault, and sheets with a field changed.
+pub fn compare_small(calls: &Calls, all: &mut Comparison) {
+    for seed in 0..SEEDS {
+        let mut rng = Rng::new(seed);
+        let mut sheet = valid(&mut rng, if seed % 2 == 0 { SMALL } else { ROOMY });
+        if seed % 4 < 2 {
+            make_small(&mut rng, &mut sheet, 3); // so that plans tie
+        }
+        compare_valid(calls, all, &mut rng, &sheet, &format!("seed {seed}"));
+        let mut written = sheet.written();
+        change_some_field(&mut rng, &sheet, &mut written);
+        let case = format!("seed {seed}, a field changed");
+        compare_sheet(calls, all, &mut rng, &written.bytes, &case);
+        for number in NUMBERS {
+            let sheet = match number {
+                10 => short_with_faults(&mut rng, &[]),
+                _ => with_faults(&mut rng, &[number]),
+            };
+            let case = format!("seed {seed}, fault {number}");
+            compare_sheet(calls, all, &mut rng, &sheet, &case);
+        }
+    }
+}
+
+/// Any sheet, in a room that is large enough for all small ones.
+fn compare_sheet(calls: &Calls, all: &mut Comparison, rng: &mut Rng, sheet: &[u8], case: &str) {
+    let room = Room::noise(rng, 640, 56);
+    let bytes = Plan::random(rng, 2).encode();
+    all.reading(calls, sheet, case);
+    all.planning(calls, sheet, &room, case);
+    all.validating(calls, sheet, &bytes, case);
+}
+
+/// A sheet that reads: rooms that are just enough and one too small, and plans that are good and damaged.
+fn compare_valid(calls: &Calls, all: &mut Comparison, rng: &mut Rng, sheet: &Sheet, case: &str) {
+    let bytes = sheet.encode();
+    let tasks = sheet.tasks.len();
+    let (cells, len) = (sheet.points.len() << tasks, plan_len(tasks));
+    compare_sheet(calls, all, rng, &bytes, case);
+    for (cells, len) in [(cells, len), (cells - 1, len), (cells, len - 1)] {
+        let room = Room::noise(rng, cells, len);
+        all.planning(calls, &bytes, &room, case);
+    }
+    let best = vanplan::plan(&bytes).expect("a sheet that reads").plan;
+    let best = Plan::in_places(tasks, &best).expect("a plan");
+    for plan in plans(rng, sheet, &best) {
+        all.validating(calls, &bytes, &plan, case);
+    }
+}
+
+/// The cheapest plan and others that are made of it: damaged, out of the sheet, with a task twice, with another cost,
+/// and in another order with its own cost.
+fn plans(rng: &mut Rng, sheet: &Sheet, best: &Plan) -> Vec<Vec<u8>> {
+    let mut plans = vec![best.encode()];
+    let mut damaged = best.encode();
+    let at = rng.below(22);
+    damaged[at] ^= 1 << rng.below(8);
+    plans.push(damaged);
+    plans.push(best.encode()[1..].to_vec());
+    let step = rng.below(best.doors.len());
+    let mut change = |change: &dyn Fn(&mut Plan)| {
+        let mut plan = best.clone();
+        change(&mut plan);
+        plans.push(plan.encode());
+    };
+    change(&|plan| plan.start = sheet.starts.len() as u16);
+    change(&|plan| plan.doors[step] = sheet.doors.len() as u16);
+    change(&|plan| plan.doors[step] = plan.doors[0]);
+    change(&|plan| plan.cost += 1);
+    for swap in 0..best.doors.len() {
+        change(&|plan| {
+            plan.doors.swap(swap, step);
+            plan.cost = cost(sheet, plan.start, &plan.doors).expect("doors of the sheet") as u64;
+        });
+    }
+    plans
+}

@@ -1,0 +1,166 @@
+//! Whether all calls answer alike: the number, and every value, cell and byte afterwards are compared with what the
+//! proved library answers and leaves.
+
+use crate::calls::{plan, read, validate, Calls, Entry};
+use crate::common::plan::{plan_len, MOST_TASKS};
+use crate::common::rng::Rng;
+use crate::races::MOST_CELLS;
+use crate::sheets::Subject;
+use std::collections::BTreeMap;
+
+/// Every number that a call can answer with; 0 stands for no refusal.
+const NUMBERS: [u32; 16] = [
+    0, 10, 11, 12, 13, 14, 15, 16, 17, 20, 21, 30, 31, 32, 33, 34,
+];
+
+/// What a call answers, and what then stands in each place that it was lent.
+struct Answer {
+    number: u32,
+    places: Vec<(&'static str, Vec<u64>)>,
+}
+
+impl Answer {
+    /// The first thing in which another answer differs from this one.
+    fn difference(&self, other: &Answer) -> Option<String> {
+        if self.number != other.number {
+            return Some(format!("{} and not {}", other.number, self.number));
+        }
+        for ((name, ours), (_, theirs)) in self.places.iter().zip(&other.places) {
+            if let Some(i) = (0..ours.len()).find(|&i| ours[i] != theirs[i]) {
+                return Some(format!("{name} {i}: {} and not {}", theirs[i], ours[i]));
+            }
+        }
+        None
+    }
+}
+
+/// What is lent to a call, with something in it.
+#[derive(Clone)]
+pub struct Room {
+    pub cells: Vec<u64>,
+    pub plan: Vec<u8>,
+}
+
+impl Room {
+    pub fn noise(rng: &mut Rng, cells: usize, plan: usize) -> Room {
+        Room {
+            cells: (0..cells).map(|_| rng.next()).collect(),
+            plan: rng.bytes(plan),
+        }
+    }
+}
+
+/// Compares calls, and keeps count of the calls and of the numbers answered.
+#[derive(Default)]
+pub struct Comparison {
+    calls: usize,
+    met: BTreeMap<u32, usize>,
+    differences: usize,
+}
+
+/// Stands in a number that is lent.
+const LENT: u64 = 0xdead_beef_0bad_f00d;
+
+impl Comparison {
+    /// All calls on a sheet that is timed; the room is longer than need be.
+    pub fn all(&mut self, calls: &Calls, subject: &Subject) {
+        let Subject { name, sheet, plan } = subject;
+        let room = Room::noise(&mut Rng::new(1), MOST_CELLS + 9, plan_len(MOST_TASKS) + 9);
+        let answers = [
+            self.reading(calls, sheet, name),
+            self.validating(calls, sheet, plan, name),
+            self.planning(calls, sheet, &room, name),
+        ];
+        assert_eq!(answers, [0; 3], "{name}");
+    }
+
+    pub fn reading(&mut self, calls: &Calls, sheet: &[u8], case: &str) -> u32 {
+        self.compare(&calls.reads, &[], &format!("reading {case}"), |call| {
+            let (mut tasks, mut points) = (LENT, LENT);
+            Answer {
+                number: read(call, sheet, &mut tasks, &mut points),
+                places: vec![("tasks", vec![tasks]), ("points", vec![points])],
+            }
+        })
+    }
+
+    pub fn validating(&mut self, calls: &Calls, sheet: &[u8], bytes: &[u8], case: &str) -> u32 {
+        self.compare(
+            &calls.validates,
+            &[],
+            &format!("validating {case}"),
+            |call| {
+                let mut cost = LENT;
+                Answer {
+                    number: validate(call, sheet, bytes, &mut cost),
+                    places: vec![("cost", vec![cost])],
+                }
+            },
+        )
+    }
+
+    pub fn planning(&mut self, calls: &Calls, sheet: &[u8], room: &Room, case: &str) -> u32 {
+        let triple_loops = &calls.triple_loops;
+        self.compare(
+            &calls.plans,
+            triple_loops,
+            &format!("planning {case}"),
+            |call| {
+                let (mut room, mut cost) = (room.clone(), LENT);
+                Answer {
+                    number: plan(call, sheet, &mut room.cells, &mut room.plan, &mut cost),
+                    places: vec![
+                        ("cost", vec![cost]),
+                        ("cell", room.cells),
+                        ("byte", room.plan.into_iter().map(u64::from).collect()),
+                    ],
+                }
+            },
+        )
+    }
+
+    /// Compares all entries, and more of them, with the first, and returns what that answers.
+    fn compare<F: Copy>(
+        &mut self,
+        entries: &[Entry<F>],
+        more: &[Entry<F>],
+        case: &str,
+        ask: impl Fn(F) -> Answer,
+    ) -> u32 {
+        let due = ask(entries[0].call);
+        for entry in entries[1..].iter().chain(more) {
+            if let Some(difference) = due.difference(&ask(entry.call)) {
+                println!(
+                    "{case}: {:?} by {} has {difference}",
+                    entry.maker,
+                    entry.name()
+                );
+                self.differences += 1;
+            }
+        }
+        self.calls += entries.len() + more.len();
+        *self.met.entry(due.number).or_default() += 1;
+        due.number
+    }
+
+    /// Whether all was alike and every number was met. Says what was compared.
+    pub fn passed(&self) -> bool {
+        let missed: Vec<u32> = NUMBERS
+            .into_iter()
+            .filter(|number| !self.met.contains_key(number))
+            .collect();
+        if !missed.is_empty() {
+            println!("never answered: {missed:?}");
+        }
+        let met: Vec<String> = (self.met.iter())
+            .map(|(number, times)| format!("{number} ({times})"))
+            .collect();
+        println!(
+            "{} calls compared, {} differences; answers met: {}",
+            self.calls,
+            self.differences,
+            met.join(", ")
+        );
+        self.differences == 0 && missed.is_empty()
+    }
+}

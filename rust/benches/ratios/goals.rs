@@ -1,0 +1,77 @@
+//! Whether the goals are met, and whether the C is what it should be.
+
+use crate::calls::Maker;
+use crate::report::{time, Row};
+
+/// The proved library takes at most so much of the best C for the same target, which for each list passes once over the
+/// rules and once over the doors. What C can do in other shapes is told beside it, with no goal.
+const PLANNING: f64 = 1.05;
+
+/// The triple loop takes at least so much of the best C, on the worst and on the middle case; and on the worst case by
+/// gcc alone.
+const TRIPLE_LOOP: [f64; 2] = [19.0, 6.0];
+const TRIPLE_LOOP_BY_GCC: f64 = 17.0;
+
+/// What C took to read the longest and a middle sheet, and to validate on each, on a machine where the triple loop took
+/// so long on the worst case. C that takes more than this much of it, scaled by the triple loop, is not tuned.
+const MEASURED: [f64; 4] = [0.53e-6, 0.12e-6, 0.98e-6, 0.32e-6];
+const MEASURED_TRIPLE_LOOP: f64 = 137e-3;
+const TUNED: f64 = 1.15;
+
+/// Prints a line for each goal, by the rows as `Races::rows` has them.
+pub fn print(planning: &[Row], others: &[Row]) {
+    println!();
+    for row in planning {
+        let ratio = row.ratio_to(row.best_c());
+        let what = format!("Rattle takes {ratio:.2} of the best C");
+        print_goal(
+            row,
+            &what,
+            &format!("at most {PLANNING}"),
+            ratio <= PLANNING,
+        );
+        let ratio = row.ratio_to(row.fastest_c());
+        println!(
+            "- {}: Rattle takes {ratio:.2} of C in its fastest shape",
+            row.title
+        );
+    }
+    for (row, least) in planning.iter().zip(TRIPLE_LOOP) {
+        print_triple_loop(row, "", least, |_| true);
+    }
+    print_triple_loop(&planning[0], "by gcc alone ", TRIPLE_LOOP_BY_GCC, |by| {
+        by == "gcc"
+    });
+    print_tuned(&planning[0], others);
+}
+
+fn print_goal(row: &Row, what: &str, goal: &str, met: bool) {
+    let met = if met { "met" } else { "NOT met" };
+    println!("- {}: {what}, {goal}: {met}", row.title);
+}
+
+/// The ratio of the triple loop to the best C, both by the compilers that are wanted, if there is one.
+fn print_triple_loop(row: &Row, by: &str, least: f64, wanted: impl Fn(&str) -> bool) {
+    let best = |maker| row.best(|timed| timed.maker == maker && timed.plain && wanted(timed.by));
+    if let (Some(triple_loop), Some(c)) = (best(Maker::TripleLoop), best(Maker::C)) {
+        let ratio = triple_loop.seconds / c.seconds;
+        let what = format!("{by}the triple loop takes {ratio:.1} of the best C");
+        print_goal(row, &what, &format!("at least {least}"), ratio >= least);
+    }
+}
+
+/// Whether the C that reads and validates is tuned.
+fn print_tuned(worst: &Row, others: &[Row]) {
+    let triple_loop = worst.best_of(Maker::TripleLoop);
+    let scale = triple_loop.map_or(1.0, |timed| timed.seconds / MEASURED_TRIPLE_LOOP);
+    for (row, measured) in others.iter().zip(MEASURED) {
+        let (taken, most) = (row.best_c().seconds, measured * TUNED * scale);
+        let what = format!("C takes {}", time(taken));
+        print_goal(
+            row,
+            &what,
+            &format!("at most {}", time(most)),
+            taken <= most,
+        );
+    }
+}

@@ -1,0 +1,156 @@
+//! The tables that are printed: one of ratios, and those of the times of every call.
+
+use crate::calls::Maker;
+use crate::time::Race;
+
+/// One call and the least time of it.
+pub struct Timed {
+    pub maker: Maker,
+    pub by: &'static str,
+    pub seconds: f64,
+    name: String,
+    /// One pass over the rules and one over the doors for each list, which is what the goal is set by; reading and
+    /// validating have no other shape.
+    pub plain: bool,
+}
+
+/// What was timed: one sheet and one call by everyone.
+pub struct Row {
+    pub title: &'static str,
+    timed: Vec<Timed>,
+}
+
+impl Row {
+    pub fn of<F: Copy>(race: &Race<F>) -> Row {
+        let row = Row {
+            title: race.title,
+            timed: Vec::new(),
+        };
+        row.and(race)
+    }
+
+    /// The same with the times of another race.
+    pub fn and<F: Copy>(mut self, race: &Race<F>) -> Row {
+        let times = race.entries.iter().zip(&race.least);
+        let timed = times.map(|(entry, &seconds)| Timed {
+            maker: entry.maker,
+            by: entry.by,
+            seconds,
+            name: entry.name(),
+            plain: matches!(entry.shape, None | Some(["branches", _])),
+        });
+        self.timed.extend(timed);
+        self
+    }
+
+    /// The fastest of those that are wanted.
+    pub fn best(&self, wanted: impl Fn(&Timed) -> bool) -> Option<&Timed> {
+        let wanted = self.timed.iter().filter(|timed| wanted(timed));
+        wanted.min_by(|a, b| a.seconds.total_cmp(&b.seconds))
+    }
+
+    pub fn best_of(&self, maker: Maker) -> Option<&Timed> {
+        self.best(|timed| timed.maker == maker)
+    }
+
+    fn rattle(&self) -> f64 {
+        self.timed[0].seconds
+    }
+
+    /// The best C of the plain shape for the same target.
+    pub fn best_c(&self) -> &Timed {
+        let best = self.best(|timed| timed.maker == Maker::C && timed.plain);
+        best.expect("a build for plain x86-64")
+    }
+
+    /// The best C for the same target in any shape.
+    pub fn fastest_c(&self) -> &Timed {
+        self.best_of(Maker::C).expect("a build for plain x86-64")
+    }
+
+    /// The proved library's time over that of another.
+    pub fn ratio_to(&self, other: &Timed) -> f64 {
+        self.rattle() / other.seconds
+    }
+}
+
+pub fn time(seconds: f64) -> String {
+    match seconds {
+        s if s >= 1e-3 => format!("{:.2} ms", s * 1e3),
+        s if s >= 1e-5 => format!("{:.1} µs", s * 1e6),
+        s => format!("{:.3} µs", s * 1e6),
+    }
+}
+
+/// A time, whose it is, and a ratio; a dash where there is none.
+fn cell(timed: Option<&Timed>, ratio: impl Fn(&Timed) -> f64) -> String {
+    match timed {
+        None => "–".to_string(),
+        Some(timed) => {
+            let (time, name) = (time(timed.seconds), &timed.name);
+            format!("{time} ({name}), {:.2}", ratio(timed))
+        }
+    }
+}
+
+/// Prints the tables: the rows of planning, and those of the other calls.
+pub fn print(planning: &[Row], others: &[Row]) {
+    println!();
+    print_ratios(planning.iter().chain(others));
+    println!();
+    print_details(planning);
+    println!();
+    print_details(others);
+}
+
+/// The one table of ratios.
+fn print_ratios<'a>(rows: impl Iterator<Item = &'a Row>) {
+    println!(
+        "| call and sheet | Rattle | Rattle / best C | best C, same target | C in its fastest shape; Rattle / it \
+         | best C, native target; Rattle / it | Rust; Rattle / it | triple loop; it / best C |"
+    );
+    println!("|---|---|---|---|---|---|---|---|");
+    for row in rows {
+        let against = |timed: &Timed| row.ratio_to(timed);
+        let best = row.best_c();
+        println!(
+            "| {} | {} | **{:.2}** | {} ({}) | {} | {} | {} | {} |",
+            row.title,
+            time(row.rattle()),
+            row.ratio_to(best),
+            time(best.seconds),
+            best.name,
+            cell(Some(row.fastest_c()), against),
+            cell(row.best_of(Maker::NativeC), against),
+            cell(row.best_of(Maker::Rust), against),
+            cell(row.best_of(Maker::TripleLoop), |timed| timed.seconds
+                / best.seconds),
+        );
+    }
+}
+
+/// The least time of every call; rows of the same calls side by side.
+fn print_details(rows: &[Row]) {
+    let titles: Vec<&str> = rows.iter().map(|row| row.title).collect();
+    println!("| by | {} |", titles.join(" | "));
+    println!("|---|{}", "---|".repeat(rows.len()));
+    for (i, timed) in rows[0].timed.iter().enumerate() {
+        let times: Vec<String> = (rows.iter())
+            .map(|row| time(row.timed[i].seconds))
+            .collect();
+        println!(
+            "| {}{} | {} |",
+            label(timed.maker),
+            timed.name,
+            times.join(" | ")
+        );
+    }
+}
+
+fn label(maker: Maker) -> &'static str {
+    match maker {
+        Maker::Rattle | Maker::C | Maker::Rust => "",
+        Maker::NativeC => "native, ",
+        Maker::TripleLoop => "triple loop, ",
+    }
+}
