@@ -45,7 +45,7 @@ fn step_line(out: &mut [u8], at: usize, door: u16, task: u16, left: u32) -> usiz
     line(out, behind_task, b" open ", left as u64)
 }
 
-// Lays a line for each step into the buffer from byte `at` on: the first n of the doors, which complete the full list of n tasks.
+// Lays a line for each of the doors into the buffer from byte `at` on. They complete the full list, which loses a task with each step.
 fn step_lines(s: &[u8], doors: &[u16], out: &mut [u8], at: usize) -> usize
     requires { ⌜ Steps (now s) (now doors) × (at + maxStep * maxPlanDoors ≤ length (now out)) ⌝ }
     ensures { λ r. ⌜ Laid at (stepLines (decode (now (s .entry))) (now (doors .entry))) (now (out .entry)) (now (out .exit)) r ⌝ }
