@@ -26,11 +26,11 @@ pub(crate) fn not_in_sheet(s: &[u8], start: u16, doors: &[u16]) -> bool
     false
 }
 
-// The places for the doors of a plan.
-type Places = [u16; MAX_DOORS];
+// A number for each door of a plan in hand.
+type PerDoor = [u16; MAX_DOORS];
 
 // The task of the door in each place.
-pub(crate) fn tasks_of(s: &[u8], doors: Places) -> Places
+pub(crate) fn tasks_of(s: &[u8], doors: PerDoor) -> PerDoor
     ensures { λ r. ⌜ r ≡ map (decode (now (s .entry)) .task) doors ⌝ }
 {
     let mut tasks = doors;
