@@ -1,31 +1,24 @@
--- What writing and reading answer: document 01's number for each fault, the length written, and the plan in hand as the definitions have it
+-- What writing and reading answer: the number of a refusal, or the length written, and the plan in hand as the definitions have it
 -- (01, Numbers a call can answer with and Working). Assumes nothing.
 use Prim.Native.Nat.{ℕ}
 use Rattle.model.specs.Answer.{Answer, refused, accepted}
 use Rattle.model.specs.PlanInHand.{PlanInHand}
-use Rattle.plan.specs.declared.Fault.{Fault}
-use Rattle.plan.specs.declared.Fault.the-variants.{WrongTasks, ShortBuffer, IllFormed}
+use Rattle.refusal.specs.Numbers.{numberOf}
 use Rattle.plan.specs.declared.Writing.{Writing}
 use Rattle.plan.specs.declared.Writing.the-variants as writing
 use Rattle.plan.specs.declared.Reading.{Reading}
 use Rattle.plan.specs.declared.Reading.the-variants as reading
 use Rattle.plan.specs.declared.Plan.{Plan}
 
--- the number of a fault
-abbrev pub numberOf : Fault → ℕ
-numberOf WrongTasks = 12
-numberOf ShortBuffer = 21
-numberOf IllFormed = 30
-
 -- what writing answered: the length
 abbrev pub answerOf : Writing → Answer ℕ
 answerOf (writing.Written n) = accepted n
-answerOf (writing.Refused f) = refused (numberOf f)
+answerOf (writing.Refused r) = refused (numberOf r)
 
--- what reading answered: 0, or the fault's number
+-- what reading answered: 0, or the refusal's number
 abbrev pub statusOf : Reading → ℕ
 statusOf reading.Read = 0
-statusOf (reading.Refused f) = numberOf f
+statusOf (reading.Refused r) = numberOf r
 
 -- the plan in hand, as the definitions have it
 abbrev pub handOf : Plan → PlanInHand

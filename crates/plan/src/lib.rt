@@ -4,10 +4,11 @@ ghost use lib.ListN.{length};
 ghost use Rattle.model.specs.Answer.{status, placed};
 ghost use Rattle.model.specs.PlanLayout.{writePlan, illFormed, startIn, PlanRead, readPlan};
 ghost use Rattle.model.specs.PlanInHand.{noDoors, withDoor, inHand};
-ghost use Rattle.plan.specs.Answers.{numberOf, answerOf, statusOf, handOf};
+ghost use Rattle.plan.specs.Answers.{answerOf, statusOf, handOf};
 use number::read_u16;
 use number::write_u16;
 use number::write_u64;
+use refusal::Refusal;
 
 pub mod layout;
 
@@ -51,34 +52,16 @@ impl Plan {
     }
 }
 
-// Why a plan is not written or not read.
-pub enum Fault {
-    WrongTasks,
-    ShortBuffer,
-    IllFormed,
-}
-
-// What writing answers: the length.
+// What writing answers: the length, or 12 or 21.
 pub enum Writing {
     Written(usize),
-    Refused(Fault),
+    Refused(Refusal),
 }
 
-// What reading answers; start, doors and cost are in what was lent.
+// What reading answers: that start, doors and cost are in what was lent, or 12 or 30.
 pub enum Reading {
     Read,
-    Refused(Fault),
-}
-
-// Document 01's number of a fault.
-pub fn number_of(f: Fault) -> u32
-    ensures { λ r. ⌜ r ≡ numberOf f ⌝ }
-{
-    match f {
-        Fault::WrongTasks => 12,
-        Fault::ShortBuffer => 21,
-        Fault::IllFormed => 30,
-    }
+    Refused(Refusal),
 }
 
 // Writes a plan of n doors, the first n of those lent, to the front of the buffer.
@@ -87,12 +70,12 @@ pub fn write(n: usize, start: u16, doors: &[u16], cost: u64, buf: &mut [u8]) -> 
     ensures bytes { λ r. ⌜ now (buf .exit) ≡ writePlan n start (now (doors .entry)) cost (now (buf .entry)) .bytes ⌝ }
 {
     if layout::wrong_tasks(n, doors.len()) {
-        return Writing::Refused(Fault::WrongTasks);
+        return Writing::Refused(Refusal::WrongEntries);
     }
     let tasks = n as u16;
     let length = layout::byte_length(tasks);
     if buf.len() < length {
-        return Writing::Refused(Fault::ShortBuffer);
+        return Writing::Refused(Refusal::ShortBuffer);
     }
     layout::write_head(buf, tasks);
     write_u16(buf, layout::START_AT, start);
@@ -109,11 +92,11 @@ pub fn read(n: usize, q: &[u8], start: &mut u16, doors: &mut [u16], cost: &mut u
     ensures cost { λ r. ⌜ now (cost .exit) ≡ placed (λ (x : PlanRead). x .cost) (readPlan n (length (now (doors .entry))) (now (q .entry))) (now (cost .entry)) ⌝ }
 {
     if layout::wrong_tasks(n, doors.len()) {
-        return Reading::Refused(Fault::WrongTasks);
+        return Reading::Refused(Refusal::WrongEntries);
     }
     let tasks = n as u16;
     if ill_formed(tasks, q) {
-        return Reading::Refused(Fault::IllFormed);
+        return Reading::Refused(Refusal::IllFormed);
     }
     *start = start_in(q);
     layout::read_doors(tasks, q, doors);

@@ -8,33 +8,16 @@ ghost use Rattle.model.specs.SheetLayout.{decode};
 ghost use Rattle.model.specs.Faults.{readSheet};
 ghost use Rattle.model.specs.Planning.{cellsNeeded, plan};
 ghost use Rattle.view.specs.Views.{Viewed};
-ghost use Rattle.planner.specs.Answers.{numberOf, answerOf};
+ghost use Rattle.planner.specs.Answers.{answerOf};
 ghost use Rattle.planner.specs.Choosing.{startCost, firstStart, Startable};
+use refusal::Refusal;
 use sheet::Reading;
 use view::View;
 
-// Why there is no plan: the sheet's own faults first, then 20 and 21 in this order.
-pub enum Refusal {
-    Sheet(sheet::Fault),
-    FewCells,
-    ShortBuffer,
-}
-
-// What planning answers: the cost, or why not.
+// What planning answers: the cost, or the sheet's own refusal, or 20 or 21.
 pub enum Planning {
     Planned(u64),
     Refused(Refusal),
-}
-
-// Document 01's number of a refusal.
-pub fn number_of(r: Refusal) -> u32
-    ensures { λ n. ⌜ n ≡ numberOf r ⌝ }
-{
-    match r {
-        Refusal::Sheet(fault) => sheet::number_of(fault),
-        Refusal::FewCells => 20,
-        Refusal::ShortBuffer => 21,
-    }
 }
 
 // Plans the sheet s: fills the cells with the costs to go, and writes the cheapest plan to the front of the buffer. A refusal leaves both as they are.
@@ -46,7 +29,7 @@ pub fn plan(s: &[u8], cells: &mut [u64], buf: &mut [u8]) -> Planning
     let reading = sheet::read(s);
     match reading {
         Reading::Read(_) => plan_sheet(s, cells, buf),
-        Reading::Refused(fault) => Planning::Refused(Refusal::Sheet(fault)),
+        Reading::Refused(refusal) => Planning::Refused(refusal),
     }
 }
 

@@ -1,7 +1,8 @@
 // Reading a task sheet, which answers with the numbers of tasks and points or with a fault.
 ghost use mathlib.Core.Path.{_≡_};
 ghost use Rattle.model.specs.Faults.{readSheet};
-ghost use Rattle.sheet.specs.Answers.{numberOf, answerOf};
+ghost use Rattle.sheet.specs.Answers.{answerOf};
+use refusal::Refusal;
 
 mod door;
 mod layout;
@@ -9,44 +10,16 @@ mod light;
 mod order;
 mod range;
 
-// The faults of a sheet, in the order in which they are tested.
-pub enum Fault {
-    TooShort,
-    WrongKind,
-    WrongEntries,
-    WrongPlaces,
-    OutOfRange,
-    NoDoor,
-    TooLight,
-    NoOrder,
-}
-
 // The numbers of tasks and points of a sheet that reads.
 pub struct Counts {
     pub tasks: u16,
     pub points: u16,
 }
 
-// What reading answers.
+// What reading answers: the counts, or one of 10 to 17.
 pub enum Reading {
     Read(Counts),
-    Refused(Fault),
-}
-
-// Document 01's number of a fault.
-pub fn number_of(f: Fault) -> u32
-    ensures { λ r. ⌜ r ≡ numberOf f ⌝ }
-{
-    match f {
-        Fault::TooShort => 10,
-        Fault::WrongKind => 11,
-        Fault::WrongEntries => 12,
-        Fault::WrongPlaces => 13,
-        Fault::OutOfRange => 14,
-        Fault::NoDoor => 15,
-        Fault::TooLight => 16,
-        Fault::NoOrder => 17,
-    }
+    Refused(Refusal),
 }
 
 // Reads a sheet. The first fault that applies is the answer.
@@ -54,30 +27,30 @@ pub fn read(s: &[u8]) -> Reading
     ensures { λ r. ⌜ answerOf r ≡ readSheet (now (s .entry)) ⌝ }
 {
     if layout::too_short(s) {
-        return Reading::Refused(Fault::TooShort);
+        return Reading::Refused(Refusal::TooShort);
     }
     if layout::wrong_kind(s) {
-        return Reading::Refused(Fault::WrongKind);
+        return Reading::Refused(Refusal::WrongKind);
     }
     if layout::some_wrong_entries(s) {
-        return Reading::Refused(Fault::WrongEntries);
+        return Reading::Refused(Refusal::WrongEntries);
     }
     if layout::wrong_places(s) {
-        return Reading::Refused(Fault::WrongPlaces);
+        return Reading::Refused(Refusal::WrongPlaces);
     }
     if range::out_of_range(s) {
-        return Reading::Refused(Fault::OutOfRange);
+        return Reading::Refused(Refusal::OutOfRange);
     }
     let lacking = door::some_lacks_door(s);
     let light = light::too_light(s);
     if lacking {
-        return Reading::Refused(Fault::NoDoor);
+        return Reading::Refused(Refusal::NoDoor);
     }
     if light {
-        return Reading::Refused(Fault::TooLight);
+        return Reading::Refused(Refusal::TooLight);
     }
     if order::something_left(s) {
-        return Reading::Refused(Fault::NoOrder);
+        return Reading::Refused(Refusal::NoOrder);
     }
     Reading::Read(Counts {
         tasks: field::tasks(s),

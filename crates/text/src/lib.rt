@@ -89,7 +89,7 @@ fn lines(s: &[u8], cells: &mut [u64], out: &mut [u8]) -> usize
     let planning = planner::plan(s, cells, &mut q);
     match planning {
         Planning::Planned(_) => plan_lines(s, &q, out),
-        Planning::Refused(refusal) => line(out, 0, b"refused ", planner::number_of(refusal) as u64),
+        Planning::Refused(refusal) => line(out, 0, b"refused ", refusal::number_of(refusal) as u64),
     }
 }
 

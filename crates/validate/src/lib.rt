@@ -4,39 +4,16 @@ ghost use Rattle.model.specs.Answer.{status};
 ghost use Rattle.model.specs.SheetLayout.{decode};
 ghost use Rattle.model.specs.Faults.{readSheet};
 ghost use Rattle.model.specs.Validating.{validate};
-ghost use Rattle.validate.specs.Answers.{numberOf, answerOf};
+ghost use Rattle.validate.specs.Answers.{answerOf};
+use refusal::Refusal;
 use sheet::Reading;
 
 mod checks;
 
-// Why a plan is not accepted: the sheet's own faults first, then 30 to 34 in the order in which they are tested.
-pub enum Refusal {
-    Sheet(sheet::Fault),
-    IllFormed,
-    NotInSheet,
-    DoneTwice,
-    ReceiverFirst,
-    WrongCost,
-}
-
-// What validating answers: the cost, or why not.
+// What validating answers: the cost, or the sheet's own refusal, or one of 30 to 34.
 pub enum Validation {
     Accepted(u64),
     Refused(Refusal),
-}
-
-// Document 01's number of a refusal.
-pub fn number_of(r: Refusal) -> u32
-    ensures { λ n. ⌜ n ≡ numberOf r ⌝ }
-{
-    match r {
-        Refusal::Sheet(fault) => sheet::number_of(fault),
-        Refusal::IllFormed => 30,
-        Refusal::NotInSheet => 31,
-        Refusal::DoneTwice => 32,
-        Refusal::ReceiverFirst => 33,
-        Refusal::WrongCost => 34,
-    }
 }
 
 // Validates the plan q for the sheet s. The first refusal that applies is the answer.
@@ -46,7 +23,7 @@ pub fn validate(s: &[u8], q: &[u8]) -> Validation
     let reading = sheet::read(s);
     match reading {
         Reading::Read(counts) => validate_plan(s, q, counts.tasks),
-        Reading::Refused(fault) => Validation::Refused(Refusal::Sheet(fault)),
+        Reading::Refused(refusal) => Validation::Refused(refusal),
     }
 }
 

@@ -29,7 +29,7 @@ pub extern "C" fn vanplan_read(sheet: &[u8], tasks: &mut u64, points: &mut u64) 
             *points = counts.points as u64;
             OK
         }
-        Reading::Refused(fault) => sheet::number_of(fault),
+        Reading::Refused(refusal) => refusal::number_of(refusal),
     }
 }
 
@@ -52,7 +52,7 @@ pub extern "C" fn vanplan_plan(
             *cost = least;
             OK
         }
-        Planning::Refused(refusal) => planner::number_of(refusal),
+        Planning::Refused(refusal) => refusal::number_of(refusal),
     }
 }
 
@@ -76,7 +76,7 @@ pub extern "C" fn vanplan_write_plan(
             *written = length;
             OK
         }
-        Writing::Refused(fault) => plan::number_of(fault),
+        Writing::Refused(refusal) => refusal::number_of(refusal),
     }
 }
 
@@ -97,7 +97,7 @@ pub extern "C" fn vanplan_read_plan(
     let reading = plan::read(n, bytes, start, doors, cost);
     match reading {
         plan::Reading::Read => OK,
-        plan::Reading::Refused(fault) => plan::number_of(fault),
+        plan::Reading::Refused(refusal) => refusal::number_of(refusal),
     }
 }
 
@@ -113,6 +113,6 @@ pub extern "C" fn vanplan_validate(sheet: &[u8], plan: &[u8], cost: &mut u64) ->
             *cost = value;
             OK
         }
-        Validation::Refused(refusal) => validate::number_of(refusal),
+        Validation::Refused(refusal) => refusal::number_of(refusal),
     }
 }
