@@ -52,8 +52,10 @@ pub fn read(s: &[u8]) -> Reading
     if order::something_left(s) {
         return Reading::Refused(Refusal::NoOrder);
     }
+    let tasks = field::tasks(s);
+    let points = field::points(s);
     Reading::Read(Counts {
-        tasks: field::tasks(s),
-        points: field::points(s),
+        tasks: tasks,
+        points: points,
     })
 }
