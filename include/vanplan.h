@@ -3,9 +3,16 @@
  * Link with libvanplan.a, which `rt staticlib vanplan` writes to target/staticlib/ (x86-64 Linux).
  *
  * Every call returns 0, or the number of a refusal, and where it refuses it has written nothing through any pointer.
- * Where several refusals apply, the lowest number is returned. Any bytes and any numbers may be passed: no call reads
- * or writes outside of what it is lent, and every call ends. A call keeps nothing from one call to the next and may be
- * made from several threads at once.
+ * Any bytes and any numbers may be passed: no call reads or writes outside of what it is lent, and every call ends. A
+ * call keeps nothing from one call to the next and may be made from several threads at once.
+ *
+ * Where several refusals apply, the first in the order in which they are tested is returned. This is the order:
+ *
+ *     vanplan_read        10, 11, 12, 13, 14, 15, 16, 17
+ *     vanplan_plan        as vanplan_read, then 20, 21
+ *     vanplan_validate    as vanplan_read, then 30, 31, 32, 33, 34
+ *     vanplan_write_plan  12, 21
+ *     vanplan_read_plan   12, 30
  *
  * The caller ensures, since no call can test it, that a pointer with a length points to at least that many elements
  * (and is not NULL, even where the length is 0), that any other pointer points to one number that may be
@@ -21,7 +28,7 @@
 extern "C" {
 #endif
 
-/* The refusals, in the order in which they are tested. N is the number of tasks and P that of points. */
+/* The refusals, by number. N is the number of tasks and P that of points. */
 enum vanplan_refusal {
     /* of a task sheet; 12 also where a plan is to have no task or more than 12, or more tasks than doors */
     VANPLAN_TOO_SHORT = 10,     /* shorter than 46 bytes */
@@ -63,25 +70,25 @@ uint32_t vanplan_read(const uint8_t *sheet, size_t len, uint64_t *tasks, uint64_
  * All numbers are unsigned and little-endian. */
 
 /* Writes the plan of n tasks with this start, the first n of the ndoors doors and this cost, each of any value, to the
- * first 32 + 2 n of the len bytes of buf. Refused: 12 if n is not 1 to 12 or ndoors is below n, then 21.
+ * first 32 + 2 n of the len bytes of buf. Refused: 12 if n is not 1 to 12 or ndoors is below n, and 21.
  * 0: *written is 32 + 2 n. The bytes of buf from there on are as they were. */
 uint32_t vanplan_write_plan(size_t n, uint16_t start, const uint16_t *doors, size_t ndoors, uint64_t cost,
                             uint8_t *buf, size_t len, size_t *written);
 
 /* Reads len bytes as a plan of n tasks, whatever its start, doors and cost are. Refused: 12 if n is not 1 to 12 or
- * ndoors is below n, then 30.
+ * ndoors is below n, and 30.
  * 0: *start is its start, the first n of the ndoors doors are its doors and the others 0, and *cost is its cost. */
 uint32_t vanplan_read_plan(size_t n, const uint8_t *bytes, size_t len, uint16_t *start, uint16_t *doors, size_t ndoors,
                            uint64_t *cost);
 
-/* Validates a plan of plan_len bytes for a task sheet of len bytes. Refused: 10 to 17 for the sheet, as vanplan_read
- * does, then 30 to 34 for the plan.
+/* Validates a plan of plan_len bytes for a task sheet of len bytes. Refused: the sheet as by vanplan_read, and the plan
+ * with 30 to 34.
  * 0: the plan does every task once and keeps every pair, and *cost is its cost, which is the stated one. It may be
  * dearer than need be. */
 uint32_t vanplan_validate(const uint8_t *sheet, size_t len, const uint8_t *plan, size_t plan_len, uint64_t *cost);
 
-/* Plans a task sheet of len bytes, with ncells work cells and a buffer of plan_len bytes for the plan. Refused: 10 to
- * 17 for the sheet, as vanplan_read does, then 20 and 21.
+/* Plans a task sheet of len bytes, with ncells work cells and a buffer of plan_len bytes for the plan. Refused: the
+ * sheet as by vanplan_read, and the room with 20 and 21.
  * 0: the first 32 + 2 N bytes of plan are the cheapest plan, and *cost is its cost. Of plans of equal cost it is the
  * first by start number, then by first door, second door and so on. The bytes of plan from there on are as they were.
  * A list of tasks is a number K below 2^N in which bit j stands for task j. For every list that has the receiver of

@@ -12,7 +12,8 @@ pub struct Counts {
     pub points: u64,
 }
 
-/// Reads a task sheet. A sheet that is refused gives the lowest of the numbers 10 to 17 that applies to it.
+/// Reads a task sheet. A sheet that is refused gives the first of the numbers 10 to 17 that applies to it, in the order
+/// in which they are tested.
 pub fn read(sheet: &[u8]) -> Result<Counts, Refusal> {
     let mut counts = Counts {
         tasks: 0,

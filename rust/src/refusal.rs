@@ -8,8 +8,9 @@ pub const ACCEPTED: u32 = 0;
 
 /// A refusal: its number alone, as the call returned it.
 ///
-/// The lowest number that applies is returned, so a sheet refused with 14 has none of the faults 10 to 13, and may
-/// have those above 14.
+/// Where several numbers apply, the first in the order in which they are tested is returned; `include/vanplan.h` has
+/// that order for each call. So a sheet refused with 14 has none of the faults that are tested before 14, and may have
+/// those that are tested after it.
 #[derive(Clone, Copy, Debug, PartialEq, Eq, PartialOrd, Ord, Hash)]
 pub struct Refusal(pub u32);
 

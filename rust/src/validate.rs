@@ -6,8 +6,8 @@ use crate::refusal::{Refusal, ACCEPTED};
 
 /// Validates a plan for a sheet and returns its cost, which is the one that it states. It may be dearer than need be.
 ///
-/// Refused with the lowest number that applies: 10 to 17 for the sheet, as [`read`](crate::read()) does, then 30 to 34
-/// for the plan.
+/// Refused with the first number that applies, in the order in which they are tested: those of the sheet, as
+/// [`read`](crate::read()) does, then 30 to 34 for the plan.
 ///
 /// ```
 /// use vanplan::{validate, Refusal};

@@ -1,5 +1,9 @@
-//! A refusal says its number and document 01's words for it, and its name is the same in Rust and in C.
+//! A refusal says its number and document 01's words for it, and its name is the same in Rust and in C. The header says
+//! in which order the numbers are tested.
 
+mod common;
+
+use common::tested::{JUDGING, PLANNING, READING, READING_A_PLAN, WRITING_A_PLAN};
 use vanplan::{read, Refusal};
 
 /// A row of the table of document 01: number, name, and words, up to where the document's text goes on.
@@ -66,6 +70,23 @@ fn the_header_has_the_same_names() {
         .collect();
     let due: Vec<(&str, u32)> = TABLE.iter().map(|row| (row.2, row.0)).collect();
     assert_eq!(named, due);
+}
+
+#[test]
+fn the_header_has_the_same_order() {
+    let header = include_str!("../../include/vanplan.h");
+    for (call, first, order) in [
+        ("vanplan_read", "", &READING[..]),
+        ("vanplan_plan", "as vanplan_read, then ", &PLANNING),
+        ("vanplan_validate", "as vanplan_read, then ", &JUDGING),
+        ("vanplan_write_plan", "", &WRITING_A_PLAN),
+        ("vanplan_read_plan", "", &READING_A_PLAN),
+    ] {
+        let numbers: Vec<String> = order.iter().map(u32::to_string).collect();
+        let due = format!(" *     {call:<20}{first}{}", numbers.join(", "));
+        let has_it = header.lines().any(|line| line == due);
+        assert!(has_it, "the header has no line {due:?}");
+    }
 }
 
 #[test]

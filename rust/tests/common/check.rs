@@ -47,12 +47,12 @@ pub fn hex(bytes: &[u8]) -> String {
 }
 
 /// How often each number was answered, 0 for sheets that read; and how often it was the only one to apply, or the
-/// lowest of several.
+/// first of several.
 #[derive(Debug, Default)]
 pub struct Tally {
     met: Times,
     alone: Times,
-    with_higher: Times,
+    with_later: Times,
 }
 
 impl Tally {
@@ -63,13 +63,14 @@ impl Tally {
     }
 
     /// Like `check`, and tallies also whether the number came alone.
-    pub fn check_company(&mut self, sheet: &[u8], case: Arguments) {
+    pub fn check_company(&mut self, sheet: &[u8], case: Arguments) -> u32 {
         let number = self.check(sheet, case);
         match faults(sheet).len() {
             0 => {}
             1 => self.alone.add(number),
-            _ => self.with_higher.add(number),
+            _ => self.with_later.add(number),
         }
+        number
     }
 
     /// Each of these numbers was answered so often or more, and no other number was answered at all.
@@ -82,9 +83,9 @@ impl Tally {
         self.alone.assert_each("alone", numbers, least);
     }
 
-    /// Each of these numbers came with a higher one so often or more, and no other number did.
-    pub fn assert_with_higher(&self, numbers: &[u32], least: usize) {
-        self.with_higher
-            .assert_each("with a higher number", numbers, least);
+    /// Each of these numbers was answered where a later one applied too, so often or more, and no other number was.
+    pub fn assert_with_later(&self, numbers: &[u32], least: usize) {
+        self.with_later
+            .assert_each("with a later number", numbers, least);
     }
 }

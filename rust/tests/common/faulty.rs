@@ -4,7 +4,20 @@ use super::layout::{body_number, offset, Field, HEAD, KIND};
 use super::reading::faults;
 use super::rng::Rng;
 use super::sheet::{Door, Rule, Sheet};
+use super::tested::{all_applying, in_order, READING};
 use super::valid::{valid, ROOMY};
+
+/// The numbers that can apply to a sheet of at least 46 bytes, in the order in which they are tested.
+pub fn all_but_10() -> Vec<u32> {
+    all_applying(&READING, |number| number != 10)
+}
+
+/// Whether two numbers can apply to one sheet: with fewer than 46 bytes it has no bodies, so 10 comes with 11, 12 and
+/// 13 alone.
+pub fn can_come_together(one: u32, other: u32) -> bool {
+    let of_the_head = |number| (10..=13).contains(&number);
+    (one != 10 && other != 10) || (of_the_head(one) && of_the_head(other))
+}
 
 /// A sheet of at least 46 bytes to which exactly these numbers, each from 11 to 17, apply.
 ///
@@ -31,7 +44,7 @@ pub fn with_faults(rng: &mut Rng, numbers: &[u32]) -> Vec<u8> {
 /// a longer one, of any length that still shows the faults.
 pub fn short_with_faults(rng: &mut Rng, numbers: &[u32]) -> Vec<u8> {
     const TRIES: usize = 10_000;
-    let due: Vec<u32> = [10].into_iter().chain(numbers.iter().copied()).collect();
+    let due = in_order(&READING, &[&[10], numbers].concat());
     for _ in 0..TRIES {
         let mut bytes = with_faults(rng, numbers);
         bytes.truncate(rng.below(HEAD));

@@ -1,12 +1,10 @@
 //! A plain judge of plans, written from document 01 alone: the cost is summed as its text says, each number has its own
-//! test, and the lowest number that applies is the answer.
+//! test, and the first that applies, in the order in which they are tested, is the answer.
 
 use super::plan::{is_laid_out, Plan};
 use super::reading::{decode, reading};
 use super::sheet::{Door, Rule, Sheet};
-
-/// The numbers that judging meets behind those of the sheet.
-pub const PLAN_NUMBERS: std::ops::RangeInclusive<u32> = 30..=34;
+use super::tested::{all_applying, first_applying, JUDGING};
 
 /// The cost of a plan that is accepted for a sheet, or the number that either of them is refused with.
 pub fn judging(sheet: &[u8], plan: &[u8]) -> Result<u64, u32> {
@@ -17,20 +15,20 @@ pub fn judging(sheet: &[u8], plan: &[u8]) -> Result<u64, u32> {
 /// The same for a sheet that reads.
 pub fn judging_for(sheet: &Sheet, plan: &[u8]) -> Result<u64, u32> {
     let asked = Asked::of(sheet, plan);
-    match PLAN_NUMBERS.into_iter().find(|&n| asked.applies(n)) {
+    match first_applying(&JUDGING, |number| asked.applies(number)) {
         Some(number) => Err(number),
         None => Ok(asked.plan.expect("laid out as a plan").cost),
     }
 }
 
-/// Every number that applies to a plan for a sheet that reads, in rising order.
+/// Every number that applies to a plan for a sheet that reads, in the order in which they are tested.
 ///
 /// This decides more than the answer does. A number applies by what stands in the places of start, doors and cost,
 /// whatever stands before them or behind; nothing is said of a plan that ends before its cost does. A plan with a start
 /// or door that is not in the sheet has no cost, so what it states is not the cost, and 34 comes with 31.
 pub fn plan_faults(sheet: &Sheet, plan: &[u8]) -> Vec<u32> {
     let asked = Asked::of(sheet, plan);
-    PLAN_NUMBERS.filter(|&n| asked.applies(n)).collect()
+    all_applying(&JUDGING, |number| asked.applies(number))
 }
 
 /// A plan that is asked about one number after the other.

@@ -21,4 +21,5 @@ pub mod rng;
 pub mod rounds;
 pub mod sheet;
 pub mod tally;
+pub mod tested;
 pub mod valid;

@@ -3,6 +3,7 @@
 use super::plan::Plan;
 use super::reading::{decode, reading};
 use super::sheet::Sheet;
+use super::tested::{first_applying, PLANNING};
 use std::fmt::Write;
 
 /// The most bytes that the program reads of its input: one more than the longest sheet has.
@@ -15,10 +16,15 @@ const CELLS: u64 = 4_096;
 pub fn sheet_to_plan(input: &[u8]) -> Result<Sheet, u32> {
     let sheet = &input[..input.len().min(MOST_READ)];
     let (tasks, points) = reading(sheet)?;
-    if points << tasks > CELLS {
-        return Err(20);
+    let applies = |number| match number {
+        20 => points << tasks > CELLS,
+        21 => false, // the program has room for the longest plan
+        _ => panic!("planning a sheet that reads never answers {number}"),
+    };
+    match first_applying(&PLANNING, applies) {
+        Some(number) => Err(number),
+        None => Ok(decode(sheet)),
     }
-    Ok(decode(sheet))
 }
 
 pub fn refusal_line(number: u32) -> String {

@@ -1,11 +1,12 @@
-//! A plain reading of a task sheet, written from document 01 alone: each number has its own test, and the lowest
-//! number that applies is the answer.
+//! A plain reading of a task sheet, written from document 01 alone: each number has its own test, and the first that
+//! applies, in the order in which they are tested, is the answer.
 
 use super::orders::some_order;
 use super::sheet::{Door, Rule, Sheet};
+use super::tested::{all_applying, first_applying, READING};
 
 /// The numbers that reading meets.
-pub const NUMBERS: std::ops::RangeInclusive<u32> = 10..=17;
+pub const NUMBERS: [u32; READING.len()] = READING;
 
 /// A sheet has at least the kind, the end load and the seven contents lines.
 const HEAD: usize = 46;
@@ -24,19 +25,19 @@ const DISTANCE: usize = 2;
 /// N and P of a sheet that reads, or the number it is refused with.
 pub fn reading(sheet: &[u8]) -> Result<(u64, u64), u32> {
     let mut asked = Asked::of(sheet);
-    match NUMBERS.into_iter().find(|&number| asked.applies(number)) {
+    match first_applying(&READING, |number| asked.applies(number)) {
         Some(number) => Err(number),
         None => Ok((asked.count(1).into(), asked.count(6).into())),
     }
 }
 
-/// Every number that applies to the sheet, in rising order.
+/// Every number that applies to the sheet, in the order in which they are tested.
 ///
 /// This decides more than the answer does. A number applies only by what is there: nothing is said of a field that
 /// the sheet is too short for, and the bodies stand where the numbers of entries put them, whatever the offsets are.
 pub fn faults(sheet: &[u8]) -> Vec<u32> {
     let mut asked = Asked::of(sheet);
-    NUMBERS.filter(|&number| asked.applies(number)).collect()
+    all_applying(&READING, |number| asked.applies(number))
 }
 
 /// The lists of a sheet whose head is whole; entries that the sheet is too short for are left out.

@@ -3,6 +3,7 @@
 use crate::common::check::hex;
 use crate::common::lent::Lent;
 use crate::common::plan::{is_laid_out, plan_len, Plan, MOST_TASKS};
+use crate::common::tested::{first_applying, READING_A_PLAN, WRITING_A_PLAN};
 use std::fmt::Arguments;
 use vanplan::{read_plan, read_plan_into, write_plan, write_plan_into, Refusal, Stated, ACCEPTED};
 
@@ -19,11 +20,13 @@ fn tasks_or_doors_are_wrong(n: usize, doors: usize) -> bool {
 
 /// The buffer after the plan with the first N of these doors was written, or the number that writing is refused with.
 fn writing(n: usize, plan: &Plan, buf: &[u8]) -> Result<Vec<u8>, u32> {
-    if tasks_or_doors_are_wrong(n, plan.doors.len()) {
-        return Err(12);
-    }
-    if buf.len() < plan_len(n) {
-        return Err(21);
+    let applies = |number| match number {
+        12 => tasks_or_doors_are_wrong(n, plan.doors.len()),
+        21 => buf.len() < plan_len(n),
+        _ => panic!("writing a plan never answers {number}"),
+    };
+    if let Some(number) = first_applying(&WRITING_A_PLAN, applies) {
+        return Err(number);
     }
     let bytes = Plan::of(plan.start, &plan.doors[..n], plan.cost).encode();
     Ok([&bytes, &buf[plan_len(n)..]].concat())
@@ -31,11 +34,13 @@ fn writing(n: usize, plan: &Plan, buf: &[u8]) -> Result<Vec<u8>, u32> {
 
 /// The plan that is read, with as many doors as are lent, or the number that reading is refused with.
 fn reading(n: usize, bytes: &[u8], doors: usize) -> Result<Plan, u32> {
-    if tasks_or_doors_are_wrong(n, doors) {
-        return Err(12);
-    }
-    if !is_laid_out(n, bytes) {
-        return Err(30);
+    let applies = |number| match number {
+        12 => tasks_or_doors_are_wrong(n, doors),
+        30 => !is_laid_out(n, bytes),
+        _ => panic!("reading a plan never answers {number}"),
+    };
+    if let Some(number) = first_applying(&READING_A_PLAN, applies) {
+        return Err(number);
     }
     let mut plan = Plan::in_places(n, bytes).expect("as long as laid out");
     plan.doors.resize(doors, 0);

@@ -5,6 +5,7 @@ use crate::common::lent::Lent;
 use crate::common::plan::plan_len;
 use crate::common::rng::Rng;
 use crate::common::rounds::Due;
+use crate::common::tested::{first_applying, PLANNING};
 use std::fmt::Arguments;
 use vanplan::{plan, plan_into, validate, Planned, Refusal, ACCEPTED};
 
@@ -43,11 +44,13 @@ impl Room {
             Err(number) => return (number, after),
         };
         let (cells, plan) = needed(due);
-        if self.cells.len() < cells {
-            return (20, after);
-        }
-        if self.plan.len() < plan {
-            return (21, after);
+        let applies = |number| match number {
+            20 => self.cells.len() < cells,
+            21 => self.plan.len() < plan,
+            _ => panic!("planning a sheet that reads never answers {number}"),
+        };
+        if let Some(number) = first_applying(&PLANNING, applies) {
+            return (number, after);
         }
         for (cell, due) in after.cells.iter_mut().zip(&due.cells) {
             *cell = due.unwrap_or(*cell);

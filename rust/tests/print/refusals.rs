@@ -1,18 +1,20 @@
-//! Every refusal that the program can print: each number alone, and the lowest where several apply.
+//! Every refusal that the program can print: each number alone, and the first in the order in which they are tested
+//! where several apply.
 
 use super::program::{check, refuses};
 use crate::common::examples::{plain, sheet_a, Entries, FEWEST, MOST};
-use crate::common::faulty::{short_with_faults, with_faults};
+use crate::common::faulty::{all_but_10, can_come_together, short_with_faults, with_faults};
 use crate::common::layout::{body_number, entries, offset, KIND};
 use crate::common::printing::sheet_to_plan;
-use crate::common::reading::{faults, NUMBERS};
+use crate::common::reading::faults;
 use crate::common::rng::Rng;
 use crate::common::sheet::Sheet;
+use crate::common::tested::{every_two, READING};
 use crate::common::valid::{valid, Size, ANY};
 
 #[test]
 fn each_number_alone() {
-    for number in NUMBERS {
+    for number in READING {
         for seed in 0..25 {
             let mut rng = Rng::new(seed);
             let input = match number {
@@ -27,36 +29,34 @@ fn each_number_alone() {
 }
 
 #[test]
-fn the_lower_of_two() {
-    for lower in NUMBERS {
-        for higher in lower + 1..=17 {
-            if lower == 10 && higher >= 14 {
-                // A sheet of fewer than 46 bytes has no entries.
-                continue;
-            }
-            for seed in 0..6 {
-                let mut rng = Rng::new(seed);
-                let input = match lower {
-                    10 => short_with_faults(&mut rng, &[higher]),
-                    _ => with_faults(&mut rng, &[lower, higher]),
-                };
-                let case = format_args!("seed {seed}");
-                assert_eq!(faults(&input), [lower, higher], "{case}");
-                refuses(lower, &input, case);
-            }
+fn the_first_of_two() {
+    let mut pairs = every_two(&READING);
+    pairs.retain(|&(earlier, later)| can_come_together(earlier, later));
+    assert_eq!(pairs.len(), 24, "{pairs:?}");
+    for (earlier, later) in pairs {
+        for seed in 0..6 {
+            let mut rng = Rng::new(seed);
+            let input = match (earlier, later) {
+                (10, other) | (other, 10) => short_with_faults(&mut rng, &[other]),
+                _ => with_faults(&mut rng, &[earlier, later]),
+            };
+            let case = format_args!("seed {seed}");
+            assert_eq!(faults(&input), [earlier, later], "{case}");
+            refuses(earlier, &input, case);
         }
     }
 }
 
 #[test]
-fn the_lowest_of_many() {
-    for lowest in 11..=17 {
-        let numbers: Vec<u32> = (lowest..=17).collect();
+fn the_first_of_many() {
+    let numbers = all_but_10();
+    for (place, &first) in numbers.iter().enumerate() {
+        let many = &numbers[place..];
         for seed in 0..6 {
-            let input = with_faults(&mut Rng::new(seed), &numbers);
+            let input = with_faults(&mut Rng::new(seed), many);
             let case = format_args!("seed {seed}");
-            assert_eq!(faults(&input), numbers, "{case}");
-            refuses(lowest, &input, case);
+            assert_eq!(faults(&input), many, "{case}");
+            refuses(first, &input, case);
         }
     }
 }

@@ -2,7 +2,9 @@
 
 use crate::common::check::Tally;
 use crate::common::corrupt::{change_some_field, other_values};
+use crate::common::faulty::all_but_10;
 use crate::common::rng::Rng;
+use crate::common::tested::{all_but_the_last, in_order, READING};
 use crate::common::valid::{valid, Size, ANY, SMALL};
 
 /// Sets every field of a random sheet, one at a time and at most `fields` of them, to each of its other values.
@@ -31,7 +33,9 @@ fn corrupt_each_field(tally: &mut Tally, seed: u64, size: Size, fields: usize) {
 fn assert_every_number_met(tally: &Tally, least: usize) {
     tally.assert_met(&[0, 11, 12, 13, 14, 15, 16, 17], least);
     tally.assert_alone(&[11, 13, 14, 15, 16, 17], least);
-    tally.assert_with_higher(&[12, 13, 14], least);
+    let first = |two: [u32; 2]| in_order(&READING, &two)[0];
+    let together = [[12, 13], [13, 14], [14, 15], [14, 17]];
+    tally.assert_with_later(&together.map(first), least);
 }
 
 #[test]
@@ -73,5 +77,5 @@ fn two_to_five_fields_at_once() {
     }
     tally.assert_met(&[0, 11, 12, 13, 14, 15, 16, 17], 100);
     tally.assert_alone(&[11, 13, 14, 15, 16, 17], 20);
-    tally.assert_with_higher(&[11, 12, 13, 14, 15, 16], 10);
+    tally.assert_with_later(all_but_the_last(&all_but_10()), 10);
 }

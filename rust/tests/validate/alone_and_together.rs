@@ -1,20 +1,27 @@
-//! Every set of the numbers 30 to 34 that can apply at once: the lowest is answered.
+//! Every set of the numbers 30 to 34 that can apply at once: the first in the order in which they are tested is the
+//! answer.
 //!
-//! What each of them says of a plan to which a lower one applies is laid down with `plan_faults`: 34 comes with 31, and
-//! otherwise all sets exist. So there are 12 sets without 30 and 12 with it, and every pair of numbers is in one of them.
+//! What each of them says of a plan to which an earlier one applies is laid down with `plan_faults`: 34 comes with 31,
+//! and otherwise all sets exist. So there are 12 sets without 30 and 12 with it, and every pair of numbers is in one of
+//! them.
 
 use super::calls::check;
 use super::plans::with_plan_faults;
-use crate::common::judging::{plan_faults, PLAN_NUMBERS};
+use crate::common::judging::plan_faults;
 use crate::common::rng::Rng;
 use crate::common::tally::Times;
+use crate::common::tested::{all_applying, every_two, first_applying, JUDGING};
 
-/// Every set of the numbers that can apply at once, each in rising order.
+/// Every set of the numbers that can apply at once, each in the order in which they are tested.
 fn sets() -> Vec<Vec<u32>> {
-    let members = |set: u32| PLAN_NUMBERS.filter(move |number| set >> (number - 30) & 1 == 1);
-    let all = (0..32).map(|set| members(set).collect());
+    let all = (0..32).map(|set| all_applying(&JUDGING, |number| set >> (number - 30) & 1 == 1));
     let exists = |set: &Vec<u32>| set.contains(&34) || !set.contains(&31);
     all.filter(exists).collect()
+}
+
+/// The number that is answered where these apply.
+fn first(set: &[u32]) -> Option<u32> {
+    first_applying(&JUDGING, |number| set.contains(&number))
 }
 
 #[test]
@@ -28,20 +35,16 @@ fn every_set_of_numbers() {
             assert_eq!(plan_faults(&sheet, &plan), set, "{case}");
             times.add(check(&sheet.encode(), &plan, case));
         }
-        let lowest = set.first().copied().unwrap_or(0);
-        times.assert_each("answered", &[lowest], 400);
+        times.assert_each("answered", &[first(&set).unwrap_or(0)], 400);
     }
 }
 
 #[test]
 fn every_pair_of_numbers_is_in_some_set() {
-    let mut pairs = 0;
-    for lower in PLAN_NUMBERS {
-        for higher in lower + 1..=34 {
-            let both = |set: &Vec<u32>| set.first() == Some(&lower) && set.contains(&higher);
-            assert!(sets().iter().any(both), "{lower} and {higher}");
-            pairs += 1;
-        }
+    let pairs = every_two(&JUDGING);
+    assert_eq!(pairs.len(), 10);
+    for (earlier, later) in pairs {
+        let both = |set: &Vec<u32>| first(set) == Some(earlier) && set.contains(&later);
+        assert!(sets().iter().any(both), "{earlier} and {later}");
     }
-    assert_eq!(pairs, 10);
 }

@@ -5,10 +5,10 @@ use super::plans::{solution, with_plan_faults};
 use crate::common::examples::sheet_a;
 use crate::common::faulty::{short_with_faults, with_faults};
 use crate::common::interface::{to_nothing, vanplan_validate};
-use crate::common::judging::PLAN_NUMBERS;
 use crate::common::lent::lend_long;
 use crate::common::reading::NUMBERS;
 use crate::common::rng::Rng;
+use crate::common::tested::JUDGING;
 use crate::common::valid::{valid, SMALL};
 use vanplan::validate_into;
 
@@ -33,7 +33,7 @@ fn a_refusal_writes_nothing() {
     for seed in 0..300 {
         let mut rng = Rng::new(seed);
         let lent = [0; 3].map(|_| rng.next());
-        for number in PLAN_NUMBERS {
+        for number in JUDGING {
             let alone = if number == 31 {
                 &[31, 34][..]
             } else {

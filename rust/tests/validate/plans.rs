@@ -4,6 +4,7 @@ use crate::common::judging::{cost, plan_faults};
 use crate::common::plan::{head, Plan, HEAD};
 use crate::common::rng::Rng;
 use crate::common::sheet::Sheet;
+use crate::common::tested::{in_order, JUDGING};
 use crate::common::valid::{valid, Size};
 
 /// A random solution that states its cost.
@@ -68,6 +69,7 @@ const FOUR_STEPS: Size = Size {
 /// A sheet that reads and the bytes of a plan to which exactly these numbers, each from 30 to 34, apply.
 pub fn with_plan_faults(rng: &mut Rng, numbers: &[u32]) -> (Sheet, Vec<u8>) {
     const TRIES: usize = 1_000;
+    let due = in_order(&JUDGING, numbers);
     for _ in 0..TRIES {
         let sheet = valid(rng, FOUR_STEPS);
         let mut plan = solution(rng, &sheet);
@@ -84,7 +86,7 @@ pub fn with_plan_faults(rng: &mut Rng, numbers: &[u32]) -> (Sheet, Vec<u8>) {
         if numbers.contains(&30) {
             damage_layout(rng, &mut bytes);
         }
-        if plan_faults(&sheet, &bytes) == numbers {
+        if plan_faults(&sheet, &bytes) == due {
             return (sheet, bytes);
         }
     }

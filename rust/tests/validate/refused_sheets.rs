@@ -3,11 +3,12 @@
 use super::calls::expect;
 use super::plans::{damage_layout, other_cost, solution, unknown};
 use crate::common::examples::{sheet_a, sheet_a_with_pairs, sheet_a_with_rule};
-use crate::common::faulty::{short_with_faults, with_faults};
+use crate::common::faulty::{all_but_10, short_with_faults, with_faults};
 use crate::common::plan::Plan;
 use crate::common::reading::{decode, NUMBERS};
 use crate::common::rng::Rng;
 use crate::common::sheet::{Door, Sheet};
+use crate::common::tested::every_two;
 
 /// As good a plan as the sheet allows. Wrong kinds and loads below zero leave solutions; otherwise the first door of
 /// each task in turn will do.
@@ -56,6 +57,21 @@ fn random_sheets_with_one_fault() {
             let good = good_plan(&mut rng, number, &sheet);
             for plan in plans(&mut rng, &good, &sheet) {
                 expect(number, &sheet, &plan, format_args!("seed {seed}"));
+            }
+        }
+    }
+}
+
+#[test]
+fn random_sheets_with_two_faults() {
+    for (earlier, later) in every_two(&all_but_10()) {
+        for seed in 0..60 {
+            let mut rng = Rng::new(seed);
+            let sheet = with_faults(&mut rng, &[earlier, later]);
+            let good = in_turn(&decode(&sheet));
+            for plan in plans(&mut rng, &good, &sheet) {
+                let case = format_args!("seed {seed}, {earlier} and {later}");
+                expect(earlier, &sheet, &plan, case);
             }
         }
     }

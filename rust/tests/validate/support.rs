@@ -50,7 +50,7 @@ fn the_judge_accepts_solutions_and_nothing_else() {
         times[usize::from(accepted)] += 1;
         plan.cost = other_cost(&mut rng, plan.cost);
         let faults = plan_faults(&sheet, &plan.encode());
-        assert_eq!(faults.last(), Some(&34), "seed {seed}: {plan:?}");
+        assert!(faults.contains(&34), "seed {seed}: {plan:?}");
     }
     assert!(times.iter().all(|&times| times > 2_000), "{times:?}");
 }
