@@ -16,7 +16,8 @@ use Rattle.model.specs.Folds.{mapBelow, indexOf}
 use Rattle.model.specs.Sheet.{Sheet}
 use Rattle.model.specs.Orders.{essential, pairsAllow}
 use Rattle.model.specs.Cost.{load}
-use Rattle.model.specs.Plans.{firstDoors, costToGo}
+use Rattle.model.specs.Plans.{costToGo}
+use Rattle.model.specs.Method.{firstDoors}
 use Rattle.model.specs.SheetLayout.{maxDoors, decode}
 use Rattle.view.specs.declared.View.{View}
 use Rattle.view.proofs.Counted.{points-are}

@@ -12,10 +12,10 @@ use Rattle.model.specs.Orders.{essential}
 use Rattle.model.specs.Plans.{costToGo, cheapestCompletion}
 use Rattle.model.specs.PlanInHand.{PlanInHand, noDoors, withDoor, withDoors}
 use Rattle.model.specs.SheetLayout.{decode}
-use Rattle.model.proofs.Ranges.{InRange}
+use Rattle.model.specs.Passing.{InRange, Plannable}
 use Rattle.model.proofs.Completions.{completions-none}
 use Rattle.model.proofs.FirstTask.{allow-without}
-use Rattle.model.proofs.Driving.{Plannable, FirstDoor, first-door}
+use Rattle.model.proofs.Driving.{FirstDoor, first-door}
 use Rattle.view.specs.declared.View.{View}
 use Rattle.table.proofs.Bellman.{essential-size, without-lt}
 use Rattle.complete.specs.Completed.{bestDoors, nextDoor, completed, Completable}

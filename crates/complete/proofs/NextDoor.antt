@@ -12,8 +12,9 @@ use lib.Pow.{areBytes}
 use borrow.Author.Tests.{ltb-true, ltb-false}
 use Rattle.model.specs.TaskList.{without}
 use Rattle.model.specs.Sheet.{Sheet}
-use Rattle.model.specs.Orders.{essential, canComeFirst}
-use Rattle.model.specs.Plans.{firstDoors, costToGo, cheapestCompletion}
+use Rattle.model.specs.Orders.{essential}
+use Rattle.model.specs.Method.{canComeFirst, firstDoors}
+use Rattle.model.specs.Plans.{costToGo, cheapestCompletion}
 use Rattle.model.specs.SheetLayout.{decode}
 use Rattle.model.proofs.Tests.{tested}
 use Rattle.model.proofs.Driving.{throughDoor, FirstDoor, first-door}

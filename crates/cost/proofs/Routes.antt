@@ -11,15 +11,16 @@ use lib.Pow.{pow-pos}
 use lib.Seq.{drop-cons, drop-length}
 use lib.Signed.{nonNeg}
 use borrow.Author.Tests.{ltb-true}
-use Rattle.model.specs.TaskList.{with, withIn, maskBits}
+use Rattle.model.specs.TaskList.{with}
+use Rattle.model.specs.Method.{maskBits, withIn}
 use Rattle.model.specs.Sheet.{Sheet}
 use Rattle.model.specs.Cost.{load, charges, stepCost, cost}
 use Rattle.model.specs.Plans.{inSheet}
 use Rattle.model.specs.SheetLayout.{maxTasks}
 use Rattle.model.specs.PlanLayout.{maxPlanDoors}
 use Rattle.model.proofs.Elements.{in-at}
-use Rattle.model.proofs.Loads.{Light, load-not-negative}
-use Rattle.model.proofs.Ranges.{InRange}
+use Rattle.model.proofs.Loads.{load-not-negative}
+use Rattle.model.specs.Passing.{InRange, Light}
 use Rattle.model.proofs.Masks.{with-in}
 use Rattle.model.proofs.OpenLists.{with-lt}
 use Rattle.cost.specs.Routes.{pointBefore, openAt, Costable}

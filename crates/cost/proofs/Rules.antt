@@ -7,9 +7,10 @@ use native.Mathlib.Nat.{add-zero}
 use native.Mathlib.Numerals.{add-one}
 use native.Mathlib.Omega.{arith}
 use lib.Dec.{eqb}
-use borrow.Author.Tests.{eq-eqb, ne-eqb, le-leb, lt-leb}
+use borrow.Author.Tests.{eq-eqb, ne-eqb, lt-leb, le-leb}
 use Rattle.model.specs.Folds.{sumBelow}
-use Rattle.model.specs.TaskList.{maskBits, watchedIn}
+use Rattle.model.specs.TaskList.{watchedIn}
+use Rattle.model.specs.Method.{maskBits}
 use Rattle.model.specs.Sheet.{Sheet}
 use Rattle.model.specs.Cost.{ruleCharge, charges}
 use Rattle.model.proofs.OpenLists.{watched-same}

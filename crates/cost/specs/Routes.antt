@@ -4,7 +4,8 @@ use Prim.Native.Nat.{ℕ, zero, suc, _≤_, _<_}
 use lib.Dec.{T}
 use lib.ListN.{length, getD, drop}
 use lib.Signed.{nonNeg}
-use Rattle.model.specs.TaskList.{maskBits, maskOf}
+use Rattle.model.specs.TaskList.{maskOf}
+use Rattle.model.specs.Method.{maskBits}
 use Rattle.model.specs.Sheet.{Sheet}
 use Rattle.model.specs.Cost.{load}
 use Rattle.model.specs.PlanLayout.{maxPlanDoors}

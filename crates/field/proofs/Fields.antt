@@ -1,18 +1,18 @@
--- A field read at its place is the field of the sheet: one law for every body and field. Assumes nothing.
+-- A field read at its place is the field of the sheet: one law for every layout, body and field. Assumes nothing.
 use mathlib.Core.Path.{_≡_, ap, _∙_}
 use mathlib.Core.List.{List}
-use Prim.Native.Nat.{ℕ, _+_, _*_, _^_, _<_, _≤_}
+use Prim.Native.Nat.{ℕ, _+_, _*_, _^_, _≤_, _<_}
 use native.Mathlib.Omega.{arith}
 use native.Mathlib.Nat.{mul-le-mul-right}
 use Rattle.model.specs.Bytes.{numberAt}
-use Rattle.model.specs.SheetLayout.{kind1, fieldWidth, bytesBefore, entryBytes, bodyAt, fieldAt}
+use Rattle.model.specs.SheetLayout.{Layout, fieldWidth, bytesBefore, entryBytes, bodyAt, fieldAt}
 
 -- no product of a number of 16 bits with one of 32, and so no place, wraps
 pub product-lt : (e size : ℕ) → e < 2 ^ 16 → size < 2 ^ 32 → e * size < 2 ^ 48
 product-lt e size h s = let m : e * size ≤ 65535 * size = mul-le-mul-right size (omega arith) in omega arith
 
 -- field f of entry e of body i, where at is the body's place
-pub at-place : (i f e : ℕ) (b : List ℕ) (at r : ℕ) → at ≡ bodyAt kind1 b i
-    → r ≡ numberAt (fieldWidth kind1 i f) b (at + e * entryBytes kind1 i + bytesBefore kind1 i f) → r ≡ fieldAt kind1 b i f e
+pub at-place : (L : Layout) (i f e : ℕ) (b : List ℕ) (at r : ℕ) → at ≡ bodyAt L b i
+    → r ≡ numberAt (fieldWidth L i f) b (at + e * entryBytes L i + bytesBefore L i f) → r ≡ fieldAt L b i f e
 unfolding fieldAt
-at-place i f e b at r p q = q ∙ ap (λ (x : ℕ). numberAt (fieldWidth kind1 i f) b (x + e * entryBytes kind1 i + bytesBefore kind1 i f)) p
+at-place L i f e b at r p q = q ∙ ap (λ (x : ℕ). numberAt (fieldWidth L i f) b (x + e * entryBytes L i + bytesBefore L i f)) p

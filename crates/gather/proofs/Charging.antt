@@ -1,6 +1,6 @@
 -- The charges on every door, one access rule at a time. Assumes nothing.
 use mathlib.Core.Path.{_≡_, refl, sym, _∙_, subst}
-use mathlib.Core.Logic.{⊎-elim, _≢_}
+use mathlib.Core.Logic.{_≢_, ⊎-elim}
 use mathlib.Core.Bool.{Bool, true, false}
 use mathlib.Core.List.{List}
 use Prim.Native.Nat.{ℕ, _+_, _*_, _^_, _≤_, _<_}
@@ -11,13 +11,14 @@ use lib.ListN.{length, getD, set, replicate, length-set, length-replicate, getD-
 use lib.Seq.{getD-set-same, getD-set-other, ext-getD}
 use borrow.Author.Tests.{eqb-true, eqb-false, leb-true, leb-false}
 use Rattle.model.specs.Folds.{mapBelow}
-use Rattle.model.specs.TaskList.{maskBits, watchedIn}
+use Rattle.model.specs.TaskList.{watchedIn}
+use Rattle.model.specs.Method.{maskBits}
 use Rattle.model.specs.Sheet.{Sheet}
 use Rattle.model.specs.SheetLayout.{maxDoors}
 use Rattle.model.specs.Cost.{ruleCharge, charges}
 use Rattle.model.proofs.Tests.{tested}
 use Rattle.model.proofs.Folds.{length-mapBelow, mapBelow-at}
-use Rattle.cost.proofs.Rules.{charged, not-charged, ChargedBelow, no-rule, next-rule, other-rule, all-rules}
+use Rattle.cost.proofs.Rules.{charged, not-charged, ChargedBelow, no-rule, all-rules, next-rule, other-rule}
 
 -- ---- one rule
 

@@ -9,7 +9,8 @@ use borrow.Author.Tests.{eqb-true, eqb-false}
 use Rattle.model.specs.Folds.{allBelow}
 use Rattle.model.specs.TaskList.{bit, member, without}
 use Rattle.model.specs.Sheet.{Sheet}
-use Rattle.model.specs.Orders.{pairWithin, isFree, canComeFirst}
+use Rattle.model.specs.Orders.{pairWithin}
+use Rattle.model.specs.Method.{isFree, canComeFirst}
 use Rattle.model.proofs.Tests.{tested}
 use Rattle.model.proofs.Masks.{without-same, without-other}
 use Rattle.gather.specs.Gathering.{firstBelow, firstTasks}

@@ -9,10 +9,9 @@ use lib.Seq.{getD-take}
 use Rattle.model.specs.Folds.{passingBelow}
 use Rattle.model.specs.Bytes.{overwrite}
 use Rattle.model.specs.Sheet.{Sheet}
-use Rattle.model.specs.Orders.{canComeFirst}
-use Rattle.model.specs.Plans.{firstDoors}
-use Rattle.gather.proofs.Passing.{FoundBelow, passing-few, passing-each}
-use Rattle.gather.proofs.Fronts.{Front, no-front, front-next, front-whole, map-same}
+use Rattle.model.specs.Method.{canComeFirst, firstDoors}
+use Rattle.gather.proofs.Passing.{passing-few, passing-each, FoundBelow}
+use Rattle.gather.proofs.Fronts.{map-same, Front, no-front, front-next, front-whole}
 
 -- whether door d's task can come first
 abbrev pub isFirst : Sheet → ℕ → ℕ → Bool

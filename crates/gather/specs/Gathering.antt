@@ -6,7 +6,8 @@ use Prim.Native.Nat.{ℕ, zero, suc, _+_, _*_, _^_, _≤_, _<_}
 use lib.ListN.{length, getD}
 use Rattle.model.specs.TaskList.{without}
 use Rattle.model.specs.Sheet.{Sheet}
-use Rattle.model.specs.Orders.{pairWithin, canComeFirst}
+use Rattle.model.specs.Orders.{pairWithin}
+use Rattle.model.specs.Method.{canComeFirst}
 use Rattle.model.specs.Cost.{charges}
 use Rattle.model.specs.SheetLayout.{maxDoors, decode}
 use Rattle.view.specs.declared.View.{View}

@@ -7,7 +7,7 @@ ghost use Rattle.model.specs.Folds.{mapBelow};
 ghost use Rattle.model.specs.Bytes.{overwrite};
 ghost use Rattle.model.specs.SheetLayout.{maxDoors, decode};
 ghost use Rattle.model.specs.Cost.{charges};
-ghost use Rattle.model.specs.Plans.{firstDoors};
+ghost use Rattle.model.specs.Method.{firstDoors};
 ghost use Rattle.view.specs.Views.{Viewed};
 ghost use Rattle.gather.specs.Gathering.{firstTasks, restAt, partWith, partOf, Gatherable, Chargeable};
 use view::View;

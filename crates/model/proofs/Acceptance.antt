@@ -9,30 +9,33 @@ use Rattle.model.specs.Cost.{load, ruleCharge, charges, stepCost}
 use Rattle.model.specs.Plans.{inSheet, isSolution, roundCost, planCost, plans, solutions, cheapest, isCompletion, completions, costToGo}
 use Rattle.model.specs.Bytes.{numberAt, signed, bytesOf, overwrite, overwriteAt, writtenAt}
 use Rattle.model.specs.Answer.{accepted}
-use Rattle.model.specs.SheetLayout.{kind1, fieldWidth, bytesBefore, entryBytes, lineAt, lineBody, lineOffset, entries, fieldAt, sheetLength, decodeBy, decode}
-use Rattle.model.specs.Faults.{tooShort, wrongKind, wrongEntries, wrongLine, wrongLength, badDoor, badStart, badPair, badRule, outOfRange, lacksDoor, tooLight, unlessFault, readSheet}
-use Rattle.model.specs.PlanLayout.{planStartAt, planDoorsAt, planCostAt, planLength, lineBytes, planHead, planBytes, wrongTasks, writeAnswer, bytesWritten, writePlan, illFormed, startIn, doorIn, doorsIn, costIn, doorArray, readPlan}
+use Rattle.model.specs.SheetLayout.{kind1, fieldWidth, bytesBefore, entryBytes, lineAt, lineBody, lineOffset, entries, fieldAt, sheetLength, decodeBy, layoutOf, decode}
+use Rattle.model.specs.Faults.{tooShort, wrongKind, wrongEntries, someWrongEntries, wrongLine, wrongLength, wrongPlaces, badDoor, badStart, badPair, badRule, someBadDoor, someBadStart, someBadPair, someBadRule, outOfRange, lacksDoor, someLacksDoor, tooLight, sheetTests, unlessFault, readSheet}
+use Rattle.model.specs.PlanLayout.{planStartAt, planDoorsAt, planCostAt, planLength, lineBytes, planHead, doorBytes, planBytes, wrongTasks, shortRoom, writeTests, writeAnswer, bytesWritten, writePlan, wrongHead, illFormed, startIn, doorIn, doorsIn, costIn, doorArray, readTests, readPlan}
 use Rattle.model.specs.PlanInHand.{noDoors, withDoor, inHand}
-use Rattle.model.specs.Validating.{notInSheet, doneTwice, validateFor, validate}
-use Rattle.model.specs.Planning.{cellsNeeded, planFor, cellAfter, cellsAfter, plan}
-use Rattle.model.specs.Printing.{decimal, refusalLine, stepLine, planLines, printedWith, print, printInput, printed}
+use Rattle.model.specs.Validating.{notInSheet, doneTwice, breaksPair, wrongCost, routeTests, validateFor, planTests, validate}
+use Rattle.model.specs.Planning.{cellsNeeded, fewCells, roomTests, planFor, cellAfter, cellsAfter, plan}
+use Rattle.model.specs.Printing.{decimal, refusalLine, stepLine, planLines, printedWith, print, printed}
+use Rattle.model.specs.Neighbours.{checkNeighbours}
 
-examples : T checkStarred × T checkFurther × (readSheet sheetA ≡ accepted (record { tasks = 2; points = 3 }))
-unfolding checkStarred checkFurther
+examples : T checkStarred × T checkFurther × T checkNeighbours × (readSheet sheetA ≡ accepted (record { tasks = 2; points = 3 }))
+unfolding checkStarred checkFurther checkNeighbours
     countBelow isBetween mapBelow
     bit with without full size watchedIn
     isOrder keepsPair keepsEveryPair pairWithin keepsPairsWithin isAdmissible isOrderWithin admissibleOrders noOrder essential pairsAllow
     load ruleCharge charges stepCost
     inSheet isSolution roundCost planCost plans solutions cheapest isCompletion completions costToGo
     numberAt signed bytesOf overwrite overwriteAt writtenAt
-    kind1 fieldWidth bytesBefore entryBytes lineAt lineBody lineOffset entries fieldAt sheetLength decodeBy decode
-    tooShort wrongKind wrongEntries wrongLine wrongLength badDoor badStart badPair badRule outOfRange lacksDoor tooLight unlessFault readSheet
-    planStartAt planDoorsAt planCostAt planLength lineBytes planHead planBytes wrongTasks writeAnswer bytesWritten writePlan illFormed startIn doorIn doorsIn costIn doorArray readPlan
+    kind1 fieldWidth bytesBefore entryBytes lineAt lineBody lineOffset entries fieldAt sheetLength decodeBy layoutOf decode
+    tooShort wrongKind wrongEntries someWrongEntries wrongLine wrongLength wrongPlaces
+    badDoor badStart badPair badRule someBadDoor someBadStart someBadPair someBadRule outOfRange lacksDoor someLacksDoor tooLight sheetTests unlessFault readSheet
+    planStartAt planDoorsAt planCostAt planLength lineBytes planHead doorBytes planBytes wrongTasks shortRoom writeTests writeAnswer bytesWritten writePlan
+    wrongHead illFormed startIn doorIn doorsIn costIn doorArray readTests readPlan
     noDoors withDoor inHand
-    notInSheet doneTwice validateFor validate
-    cellsNeeded planFor cellAfter cellsAfter plan
-    decimal refusalLine stepLine planLines printedWith print printInput printed
-examples = (tt, tt, refl)
+    notInSheet doneTwice breaksPair wrongCost routeTests validateFor planTests validate
+    cellsNeeded fewCells roomTests planFor cellAfter cellsAfter plan
+    decimal refusalLine stepLine planLines printedWith print printed
+examples = (tt, tt, tt, refl)
 
 -- the starred lines, all of them
 pub starred : T checkStarred
@@ -42,6 +45,10 @@ starred = examples .0
 pub further : T checkFurther
 further = examples .1
 
+-- two numbers at once, the limits of the table, numbers of two bytes, and what is allowed
+pub neighbours : T checkNeighbours
+neighbours = examples .2
+
 -- A reads, with two tasks and three points
 pub reads-A : readSheet sheetA ≡ accepted (record { tasks = 2; points = 3 })
-reads-A = examples .2
+reads-A = examples .3

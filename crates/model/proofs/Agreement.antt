@@ -7,7 +7,7 @@ use native.Mathlib.Omega.{arith}
 use lib.Dec.{eqb, ltb}
 use lib.IntN.{ℤ, pos, _+ℤ_}
 use borrow.Author.Tests.{ltb-true}
-use Rattle.model.specs.Folds.{allBelow, sumBelow, allIn, keepIf, isEmpty, listsBelow, firstLeast, least}
+use Rattle.model.specs.Folds.{allBelow, sumBelow, listsBelow, allIn, keepIf, isEmpty, firstLeast, least}
 use Rattle.model.specs.TaskList.{member, full, size, maskOf}
 use Rattle.model.specs.Sheet.{Sheet}
 use Rattle.model.specs.Orders.{isOrder, keepsPair, keepsEveryPair, pairWithin, keepsPairsWithin, isAdmissible, isOrderWithin, admissibleOrders, noOrder, essential, pairsAllow}
@@ -15,9 +15,9 @@ use Rattle.model.specs.Cost.{loadBelow, load, ruleCharge, charges, stepC
 use Rattle.model.specs.Plans.{inSheet, isSolution, roundCost, planCost, plans, solutions, cheapest, isCompletion, completions, costToGo}
 use Rattle.model.proofs.Tests.{and-left, and-right, all-cong}
 use Rattle.model.proofs.Folds.{sum-cong, keep-cong}
-use Rattle.model.proofs.Lists.{All, all-kept, all-imply, all-in, map-cong}
+use Rattle.model.proofs.Lists.{All, all-kept, all-imply, map-cong, all-in}
 use Rattle.model.proofs.Choices.{first-cong}
-use Rattle.model.proofs.Ranges.{InRange}
+use Rattle.model.specs.Passing.{InRange}
 
 -- ---- congruences
 

@@ -17,14 +17,14 @@ use Rattle.model.specs.Sheet.{Sheet}
 use Rattle.model.specs.Orders.{isOrder, isAdmissible, isOrderWithin}
 use Rattle.model.specs.Cost.{load, ruleCharge, charges, stepCost, cost}
 use Rattle.model.specs.Plans.{inSheet, isSolution, roundCost, isCompletion, completions, costToGo}
-use Rattle.model.specs.SheetLayout.{maxTasks, maxRules, tasksBody, rulesBody, decodeBy, decode}
+use Rattle.model.specs.SheetLayout.{tasksBody, rulesBody, maxTasks, maxRules, decodeBy, decode}
 use Rattle.model.specs.PlanLayout.{maxPlanDoors}
 use Rattle.model.proofs.Tests.{tested, and-left, and-right}
 use Rattle.model.proofs.Folds.{sum-cong, sum-le, sum-mono, sum-add}
 use Rattle.model.proofs.Masks.{size-le}
 use Rattle.model.proofs.Lists.{All, all-kept}
 use Rattle.model.proofs.Counting.{order-length, order-once}
-use Rattle.model.proofs.Limits.{CountsWithin}
+use Rattle.model.specs.Passing.{CountsWithin}
 use Rattle.model.proofs.Loads.{load-magnitude}
 use Rattle.model.proofs.Widths.{Widths, entries-lt, widths}
 

@@ -10,17 +10,19 @@ use borrow.Author.Tests.{eqb-true, eq-eqb, ltb-true}
 use Rattle.model.specs.Folds.{flatMapBelow, listsBelow, allIn, firstLeast, least}
 use Rattle.model.specs.TaskList.{without, size, maskOf}
 use Rattle.model.specs.Sheet.{Sheet}
-use Rattle.model.specs.Orders.{isOrderWithin, canComeFirst}
+use Rattle.model.specs.Orders.{isOrderWithin}
+use Rattle.model.specs.Method.{canComeFirst}
 use Rattle.model.specs.Cost.{stepCost, cost}
 use Rattle.model.specs.Plans.{inSheet, isCompletion, completions, costToGo, cheapestCompletion}
-use Rattle.model.proofs.Tests.{tested, same-test, and-left-comm, and-right}
-use Rattle.model.proofs.Folds.{keep-cong, flat-cong}
-use Rattle.model.proofs.Masks.{size-none, size-without, without-le}
+use Rattle.model.proofs.Tests.{tested, same-test, and-right, and-left-comm}
+use Rattle.model.proofs.Folds.{flat-cong, keep-cong}
+use Rattle.model.proofs.Masks.{without-le, size-none, size-without}
 use Rattle.model.proofs.Lists.{All, all-kept, map-cong}
 use Rattle.model.proofs.Choices.{first-cong}
-use Rattle.model.proofs.Process.{Process, completes, runs, runs-end, runs-by-first, runCost, toGo, bestRun}
-use Rattle.model.proofs.Ranges.{InRange}
+use Rattle.model.proofs.Process.{Process, completes, runs, runCost, toGo, bestRun, runs-end, runs-by-first}
+use Rattle.model.specs.Passing.{InRange}
 use Rattle.model.proofs.FirstTask.{within-cons, first-bit, nil-size, size-nil, mask-is}
+use Rattle.model.proofs.Searches.{next}
 
 -- where the van stands, and what is open
 pub record Position : Type 0 where

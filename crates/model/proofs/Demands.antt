@@ -1,143 +1,48 @@
 -- The three demands on the product, as three theorems over the predicates of specs/: `demand-1`, `demand-2` and `demand-3`. Assumes nothing.
 -- An answer is `accepted` or `refused`. Every definition is a total function of any bytes and any numbers, so every call ends and leans on no check made by its caller.
 use mathlib.Core.Path.{_≡_, refl, sym, ap, ap₂, _∙_}
-use mathlib.Core.Logic.{_⊎_, inl, inr, ⊎-elim, _↔_}
+use mathlib.Core.Logic.{_⊎_, inl, inr, ⊎-elim}
 use mathlib.Core.Bool.{Bool, true, false}
 use mathlib.Core.List.{List}
 use mathlib.Core.Option.{some}
-use Prim.Native.Nat.{ℕ, _+_, _*_, _^_, _≤_, _<_}
+use Prim.Native.Nat.{ℕ, _+_, _*_, _^_, _<_}
 use native.Mathlib.Nat.{lt-of-lt-of-le}
 use lib.Arith.{digits-lt}
 use lib.Dec.{lit≤}
-use lib.ListN.{length, getD, take, drop, replicate}
-use lib.Pow.{areBytes}
-use Rattle.model.specs.Orders.{isAdmissible, noOrder, pairsAllow}
+use lib.ListN.{length, getD, replicate, take, drop}
+use Rattle.model.specs.Orders.{noOrder, pairsAllow}
 use Rattle.model.specs.Cost.{cost}
-use Rattle.model.specs.Plans.{Plan, isSolution, roundCost, planCost, cheapest, isCompletion, costToGo}
+use Rattle.model.specs.Plans.{Plan, isSolution, planCost, cheapest, costToGo}
 use Rattle.model.specs.Answer.{refused, accepted, refuseIf}
 use Rattle.model.specs.SheetLayout.{decode}
-use Rattle.model.specs.Faults.{Counts, readSheet}
-use Rattle.model.specs.PlanLayout.{maxPlanDoors, planLength, planBytes, doorArray, PlanRead, writePlan, readPlan}
+use Rattle.model.specs.Faults.{readSheet}
+use Rattle.model.specs.PlanLayout.{maxPlanDoors, planLength, planBytes, doorArray, readPlan}
 use Rattle.model.specs.Validating.{validate}
 use Rattle.model.specs.Examples.{sheetA}
 use Rattle.model.specs.Planning.{cellsNeeded, orNoOrder, planFor, carriedOut, plan}
 use Rattle.model.proofs.Acceptance.{reads-A}
-use Rattle.model.proofs.Reading.{refused≢accepted, accepted-value, Passed, Reads, counts-read, reads-then, accepted-reads, refused-reads, refused-alike}
-use Rattle.model.proofs.Passing.{Passes, passes-iff}
-use Rattle.model.proofs.Loads.{Light, light, light-passes}
+use Rattle.model.proofs.Reading.{Cleared, Reads, reads-then, counts-read, accepted-reads, refused-reads, refused-alike}
+use Rattle.model.proofs.Refusing.{refused≢accepted, accepted-value}
+use Rattle.model.proofs.Passing.{passes-iff}
+use Rattle.model.specs.Passing.{CountsWithin}
+use Rattle.model.specs.Demands.{Cheapest}
+use Rattle.model.specs.Demands.{Demand1}
+use Rattle.model.specs.Demands.{Demand2}
+use Rattle.model.specs.Demands.{Demand3}
+use Rattle.model.specs.Demands.{Lent}
+use Rattle.model.specs.Demands.{SheetNumber}
+use Rattle.model.proofs.Loads.{light, light-passes}
 use Rattle.model.proofs.Ranks.{RanksBefore}
 use Rattle.model.proofs.PlanBytes.{length-is, tasks-fit, array-at, array-front, read-what-was-written, read-length, write-what-was-read, plan-over, written, written-whole, write-refusals, read-refusals}
 use Rattle.model.proofs.Bounds.{round-small}
-use Rattle.model.proofs.Limits.{CountsWithin, counts-within}
-use Rattle.model.proofs.Enumerations.{has-order, no-order-false, no-order-iff}
+use Rattle.model.proofs.Entries.{counts-within}
+use Rattle.model.proofs.Enumerations.{has-order, no-order-iff, no-order-false}
 use Rattle.model.proofs.NoOrder.{gets-17}
 use Rattle.model.proofs.Cheapest.{cheapest-solution, cheapest-least, cheapest-first, to-go-attained, to-go-least}
 use Rattle.model.proofs.Driving.{some-completion}
 use Rattle.model.proofs.Solutions.{solution, solution-length, solution-fits}
 use Rattle.model.proofs.Validating.{validate-iff, judge-refusals}
-use Rattle.model.proofs.Planning.{cell-shown, cell-kept, cell-beyond, length-cells, plan-for, planned, refused-planned, plan-refused, plan-refusals, plannable, has-plan}
-
--- ---- Demand 1. "A task sheet, whole, torn or stray bytes, is read or refused with one of the numbers 10 to 17. Planning may also be refused with 20 or 21,
--- judging with 30 to 34. Every call ends, leans on no check made by its caller, and on refusal changes no byte or cell it was lent."
-
--- one of the sheet's own numbers
-abbrev pub SheetNumber : ℕ → Type 0
-SheetNumber r = (10 ≤ r) × (r ≤ 17)
-
-pub record Demand1 : Type 0 where
-  -- a sheet is refused with one of 10 to 17
-  pub reading : (b : List ℕ) (r : ℕ) → readSheet b ≡ refused r → SheetNumber r
-  -- or it is read, with N and P: exactly if it is laid out as it should be, no load is below zero, and some order of the tasks keeps every pair
-  pub reads-iff : (b : List ℕ)
-      → (readSheet b ≡ accepted (record { tasks = decode b .tasks; points = decode b .points }))
-      ↔ (Passes b × Light (decode b) × ((ts : List ℕ) × (isAdmissible (decode b) ts ≡ true)))
-  -- planning may also be refused with 20 or 21; on refusal no cell and no byte changes
-  pub planning : (b cells buffer : List ℕ) (r : ℕ) → plan b cells buffer .answer ≡ refused r
-      → (SheetNumber r ⊎ ((r ≡ 20) ⊎ (r ≡ 21))) × (plan b cells buffer .cells ≡ cells) × (plan b cells buffer .bytes ≡ buffer)
-  -- judging may also be refused with 30 to 34
-  pub judging : (b q : List ℕ) (r : ℕ) → validate b q ≡ refused r → SheetNumber r ⊎ ((30 ≤ r) × (r ≤ 34))
-  -- planning and judging read first: what reading refuses they refuse, with the same number
-  pub reads-first : (b : List ℕ) (r : ℕ) → readSheet b ≡ refused r → (cells buffer q : List ℕ) → (plan b cells buffer .answer ≡ refused r) × (validate b q ≡ refused r)
-  -- writing a plan is refused with 12 or 21, and then no byte changes; reading one with 12 or 30
-  pub writing-a-plan : (n start : ℕ) (doors : List ℕ) (c : ℕ) (buffer : List ℕ) (r : ℕ) → writePlan n start doors c buffer .answer ≡ refused r
-      → ((r ≡ 12) ⊎ (r ≡ 21)) × (writePlan n start doors c buffer .bytes ≡ buffer)
-  pub reading-a-plan : (n lent : ℕ) (q : List ℕ) (r : ℕ) → readPlan n lent q ≡ refused r → (r ≡ 12) ⊎ (r ≡ 30)
-
--- ---- Demand 2. "A plan put before the judge with a sheet that reads is accepted only, and always, when it is well formed and is a solution in the sense of
--- (2.4) to (2.10) of document 000 with the cost of (2.12), as document 01 fits them to vans. A plan written and then read has its start, doors and cost again,
--- and bytes that read as a plan are those that writing it yields."
-
-pub record Demand2 : Type 0 where
-  -- accepted with cost c exactly if the bytes are those of a plan that is a solution and costs c
-  pub accepted-iff : (b q : List ℕ) (c : ℕ) (counts : Counts) → areBytes b ≡ true → areBytes q ≡ true → readSheet b ≡ accepted counts
-      → (validate b q ≡ accepted c)
-      ↔ ((s : ℕ) × (ds : List ℕ) × (isSolution (decode b) s ds ≡ true) × (c ≡ roundCost (decode b) s ds) × (q ≡ planBytes (decode b .tasks) s ds c))
-  -- what was written into any buffer with room for it reads as what was written, wherever as many doors are lent
-  pub written-then-read : (n start : ℕ) (doors : List ℕ) (c : ℕ) (buffer : List ℕ) (lent : ℕ) → 1 ≤ n → n ≤ maxPlanDoors → n ≤ length doors → n ≤ lent
-      → start < 2 ^ 16 → ((i : ℕ) → i < n → getD doors i 0 < 2 ^ 16) → c < 2 ^ 64 → 32 + 2 * n ≤ length buffer
-      → (x : PlanRead) × (readPlan n lent (take (32 + 2 * n) (writePlan n start doors c buffer .bytes)) ≡ accepted x)
-      × (x .start ≡ start) × ((i : ℕ) → i < n → getD (x .doors) i 0 ≡ getD doors i 0) × (x .cost ≡ c)
-  -- writing returns the length, and bytes beyond that stay
-  pub rest-stays : (n start : ℕ) (doors : List ℕ) (c : ℕ) (buffer : List ℕ) → 1 ≤ n → n ≤ maxPlanDoors → n ≤ length doors → 32 + 2 * n ≤ length buffer
-      → (writePlan n start doors c buffer .answer ≡ accepted (32 + 2 * n))
-      × (drop (32 + 2 * n) (writePlan n start doors c buffer .bytes) ≡ drop (32 + 2 * n) buffer)
-  -- what reads as a plan is what writing that plan yields
-  pub read-then-written : (n lent : ℕ) (q : List ℕ) (x : PlanRead) → areBytes q ≡ true → readPlan n lent q ≡ accepted x
-      → (buffer : List ℕ) → length buffer ≡ length q → writePlan n (x .start) (x .doors) (x .cost) buffer .bytes ≡ q
-
--- ---- Demand 3. "For every sheet that passes 10 to 16, with room lent for work and plan and whatever stood in either before, planning refuses, with 17, exactly
--- when no order of the tasks keeps every pair. Otherwise the bytes written read as such a solution with its cost, and the cost answered is the same. Every other
--- solution of that sheet, from whichever start listed, costs at least as much, and one that costs the same has a higher start number, or the same start and, where
--- the doors first differ, a higher door number. And unless planning refuses, the work area then shows, for every open list that the pairs allow, the empty one too,
--- and for every point, the least cost of finishing from there; units will soon replan in mid-round from those figures."
-
--- "for every sheet that passes 10 to 16, with room lent for work and plan": nothing is said of what stands in the cells or in the buffer
-pub record Lent (b cells buffer : List ℕ) : Type 0 where
-  pub bytes : areBytes b ≡ true
-  -- 10 to 15, in plain words (proofs/Passing.antt), and 16: the end load plus all negative changes is not below zero
-  pub passes : Passes b
-  pub light : Light (decode b)
-  pub work-room : 2 ^ decode b .tasks * decode b .points ≤ length cells
-  pub plan-room : 32 + 2 * decode b .tasks ≤ length buffer
-
--- the doors of a plan that was read for the sheet b: as many as there are tasks
-abbrev pub doorsOf : List ℕ → PlanRead → List ℕ
-doorsOf b x = take (decode b .tasks) (x .doors)
-
--- what planning leaves where it does not refuse
-pub record Cheapest (b cells buffer : List ℕ) : Type 0 where
-  -- the first 32 + 2N bytes read as a plan, and the rest of the buffer stays
-  pub written : PlanRead
-  pub reads-as : readPlan (decode b .tasks) maxPlanDoors (take (32 + 2 * decode b .tasks) (plan b cells buffer .bytes)) ≡ accepted written
-  pub rest-stays : drop (32 + 2 * decode b .tasks) (plan b cells buffer .bytes) ≡ drop (32 + 2 * decode b .tasks) buffer
-  -- which is a solution, with its cost, and the cost answered is the same
-  pub solution : isSolution (decode b) (written .start) (doorsOf b written) ≡ true
-  pub its-cost : written .cost ≡ roundCost (decode b) (written .start) (doorsOf b written)
-  pub answered : plan b cells buffer .answer ≡ accepted (written .cost)
-  -- every other solution costs at least as much
-  pub none-cheaper : (s : ℕ) (ds : List ℕ) → isSolution (decode b) s ds ≡ true → written .cost ≤ roundCost (decode b) s ds
-  -- and one that costs the same has a higher start, or the same start and a higher door where the doors first differ
-  pub first-of-equals : (s : ℕ) (ds : List ℕ) → isSolution (decode b) s ds ≡ true → roundCost (decode b) s ds ≡ written .cost
-      → ((s ≡ written .start) × (ds ≡ doorsOf b written))
-      ⊎ ((written .start < s)
-      ⊎ ((written .start ≡ s) × ((i : ℕ) × (i < length ds) × (take i (doorsOf b written) ≡ take i ds) × (getD (doorsOf b written) i 0 < getD ds i 0))))
-  -- for every list that the pairs allow and every point the cell shows a figure that some completion attains and none undercuts
-  pub attained : (K p : ℕ) → K < 2 ^ decode b .tasks → pairsAllow (decode b) K ≡ true → p < decode b .points
-      → (ds : List ℕ) × (isCompletion (decode b) K ds ≡ true) × (cost (decode b) p ds ≡ getD (plan b cells buffer .cells) (K * decode b .points + p) 0)
-  pub not-undercut : (K p : ℕ) → K < 2 ^ decode b .tasks → pairsAllow (decode b) K ≡ true → p < decode b .points
-      → (ds : List ℕ) → isCompletion (decode b) K ds ≡ true → getD (plan b cells buffer .cells) (K * decode b .points + p) 0 ≤ cost (decode b) p ds
-  -- and the cells are otherwise as lent
-  pub other-lists : (K p : ℕ) → K < 2 ^ decode b .tasks → pairsAllow (decode b) K ≡ false → p < decode b .points
-      → getD (plan b cells buffer .cells) (K * decode b .points + p) 0 ≡ getD cells (K * decode b .points + p) 0
-  pub beyond : (i : ℕ) → 2 ^ decode b .tasks * decode b .points ≤ i → getD (plan b cells buffer .cells) i 0 ≡ getD cells i 0
-  pub as-many : length (plan b cells buffer .cells) ≡ length cells
-
-pub record Demand3 (b cells buffer : List ℕ) : Type 0 where
-  -- reading and planning refuse with 17 exactly when no order of the tasks keeps every pair
-  pub reading-refuses-iff : (readSheet b ≡ refused 17) ↔ ((ts : List ℕ) → isAdmissible (decode b) ts ≡ true → ⊥)
-  pub refuses-iff : (plan b cells buffer .answer ≡ refused 17) ↔ ((ts : List ℕ) → isAdmissible (decode b) ts ≡ true → ⊥)
-  -- and otherwise planning leaves the cheapest plan
-  pub otherwise : (plan b cells buffer .answer ≡ refused 17 → ⊥) → Cheapest b cells buffer
+use Rattle.model.proofs.Planning.{length-cells, cell-shown, cell-kept, cell-beyond, plan-for, planned, plan-refused, refused-planned, plan-refusals, plannable, has-plan}
 
 -- ---- the proofs
 
@@ -186,7 +91,7 @@ demand-2 = record {
 }
 
 module _ (b cells buffer : List ℕ) (L : Lent b cells buffer) where
-  tests : Passed b
+  tests : Cleared b
   tests = passes-iff b .1 (L .passes)
 
   counts : CountsWithin (decode b)
@@ -262,10 +167,10 @@ module _ (b cells buffer : List ℕ) (L : Lent b cells buffer) where
       where
         rank : {s : ℕ} {ds : List ℕ} → (record { start = s; doors = ds } ≡ x) ⊎ RanksBefore x (record { start = s; doors = ds })
             → ((s ≡ x .start) × (ds ≡ x .doors))
-            ⊎ ((x .start < s) ⊎ ((x .start ≡ s) × ((i : ℕ) × (i < length ds) × (take i (x .doors) ≡ take i ds) × (getD (x .doors) i 0 < getD ds i 0))))
+            ⊎ ((x .start < s) ⊎ ((x .start ≡ s) × ((i : ℕ) × (i < length (x .doors)) × (i < length ds) × (take i (x .doors) ≡ take i ds) × (getD (x .doors) i 0 < getD ds i 0))))
         rank (inl e) = inl (ap (λ y. y .start) e, ap (λ y. y .doors) e)
         rank (inr (inl l)) = inr (inl l)
-        rank (inr (inr h)) = inr (inr (h .0, (h .1 .0, h .1 .2, h .1 .3, h .1 .4)))
+        rank (inr (inr h)) = inr (inr h)
 
 pub demand-3 : (b cells buffer : List ℕ) → Lent b cells buffer → Demand3 b cells buffer
 demand-3 b cells buffer L = record {

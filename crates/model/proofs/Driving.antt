@@ -1,6 +1,6 @@
 -- Finishing a round of a sheet that can be planned, from every point with every list open: Bellman's equation, and the first door of the cheapest completion. Assumes nothing.
 use mathlib.Core.Path.{_≡_, sym, ap, ap₂, _∙_, subst, subst₂, fun-ext}
-use mathlib.Core.Bool.{true, false}
+use mathlib.Core.Bool.{true}
 use mathlib.Core.List.{List, [], _∷_, map, List·Memᴰ, List·Memᴰ·not-nil}
 use mathlib.Core.Option.{some}
 use Prim.Native.Nat.{ℕ, suc, _+_, _^_, _≤_, _<_}
@@ -11,26 +11,19 @@ use borrow.Author.Tests.{lt-ltb}
 use Rattle.model.specs.Folds.{least}
 use Rattle.model.specs.TaskList.{without, full, size}
 use Rattle.model.specs.Sheet.{Sheet}
-use Rattle.model.specs.Orders.{noOrder, canComeFirst}
+use Rattle.model.specs.Method.{canComeFirst, firstDoors}
 use Rattle.model.specs.Cost.{stepCost, cost}
-use Rattle.model.specs.Plans.{firstDoors, isCompletion, completions, costToGo, cheapestCompletion}
+use Rattle.model.specs.Plans.{isCompletion, completions, costToGo, cheapestCompletion}
 use Rattle.model.specs.SheetLayout.{decode}
 use Rattle.model.proofs.Tests.{and-both}
-use Rattle.model.proofs.Masks.{without-le, full-bit}
+use Rattle.model.proofs.Masks.{full-bit, without-le}
 use Rattle.model.proofs.Process.{runs, toGo, through, bellman, FirstStep, first-step}
-use Rattle.model.proofs.Limits.{CountsWithin}
-use Rattle.model.proofs.Ranges.{InRange, Served}
+use Rattle.model.specs.Passing.{CountsWithin, Plannable}
 use Rattle.model.proofs.Completions.{Position, driving, completes-is, completions-are, open-is, to-go-is, cheapest-is}
 use Rattle.model.proofs.Existence.{part, part-within, admissible-is, order-driven}
 use Rattle.model.proofs.Enumerations.{has-order, completion-listed}
 use Rattle.model.proofs.Cheapest.{to-go-attained}
 use Rattle.model.proofs.Bounds.{Limits, sumLimit, WithinLimits, cost-bound, kind1Limits, kind1-sums, kind1-within}
-
--- what 14, 15 and 17 leave of a sheet
-pub record Plannable (S : Sheet) : Type 0 where
-  pub ranges : InRange S
-  pub doors : Served S
-  pub ordered : noOrder S ≡ false
 
 -- door d, and the cost to go from where it leads
 unfoldable pub throughDoor : Sheet → ℕ → ℕ → ℕ → ℕ

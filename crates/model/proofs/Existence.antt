@@ -14,7 +14,7 @@ use Rattle.model.specs.Orders.{isOrder, keepsPair, keepsEveryPair, pairW
 use Rattle.model.specs.Plans.{inSheet, isCompletion}
 use Rattle.model.proofs.Tests.{not-both, and-left, and-right, and-both, all-at, all-below, all-cong}
 use Rattle.model.proofs.Masks.{bit-cases, member-bit, not-member-bit, full-bit}
-use Rattle.model.proofs.Ranges.{InRange, Served}
+use Rattle.model.specs.Passing.{InRange, Served}
 
 -- ---- the part of an order that lies in K
 

@@ -12,11 +12,12 @@ use borrow.Author.Tests.{not-true, eqb-true, eqb-false, eq-eqb, ne-eqb, ltb-true
 use Rattle.model.specs.Folds.{allBelow, allIn, countOf, indexOf}
 use Rattle.model.specs.TaskList.{bit, member, with, without, size, maskOf}
 use Rattle.model.specs.Sheet.{Sheet}
-use Rattle.model.specs.Orders.{isOrder, keepsPair, pairWithin, keepsPairsWithin, isOrderWithin, essential, pairsAllow, isFree, canComeFirst}
-use Rattle.model.proofs.Tests.{tested, not-both, and-left-comm, and-left, and-right, and-both, all-at, all-below, all-cong, all-false, all-and}
+use Rattle.model.specs.Orders.{isOrder, keepsPair, pairWithin, keepsPairsWithin, isOrderWithin, essential, pairsAllow}
+use Rattle.model.specs.Method.{isFree, canComeFirst}
+use Rattle.model.proofs.Tests.{tested, not-both, and-left, and-right, and-both, and-left-comm, all-at, all-below, all-cong, all-false, all-and}
 use Rattle.model.proofs.Folds.{sum-none, sum-zero}
 use Rattle.model.proofs.Masks.{bit-lt, bit-none, member-bit, without-same, without-other, without-le, with-without, size-is, size-zero}
-use Rattle.model.proofs.Ranges.{InRange}
+use Rattle.model.specs.Passing.{InRange}
 
 module _ (n K t : ℕ) where
   -- the count of one task, before and after t is struck off

@@ -12,8 +12,10 @@ pub mod Choices
 pub mod Scans
 pub mod Process
 pub mod Counting
+pub mod Positions
 pub mod Ranks
-pub mod Limits
+pub mod Refusing
+pub mod Entries
 pub mod Ranges
 pub mod Reading
 pub mod Loads
@@ -45,3 +47,5 @@ pub mod Printing
 pub mod Meanings
 pub mod Demands
 pub mod Calls
+pub mod Figures
+pub mod Judged

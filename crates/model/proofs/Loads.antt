@@ -14,6 +14,7 @@ use Rattle.model.specs.TaskList.{bit, member}
 use Rattle.model.specs.Sheet.{Sheet}
 use Rattle.model.specs.Cost.{loadBelow, load}
 use Rattle.model.specs.Faults.{lightestBelow, tooLight}
+use Rattle.model.specs.Passing.{down, Light}
 use Rattle.model.proofs.Tests.{tested}
 use Rattle.model.proofs.Folds.{sum-le, sum-mono}
 use Rattle.model.proofs.Masks.{bit-cases}
@@ -24,10 +25,6 @@ use Rattle.model.proofs.Masks.{bit-cases}
 abbrev pub up : ℤ → ℕ
 up (pos n) = n
 up (negsuc n) = 0
-
-abbrev pub down : ℤ → ℕ
-down (pos n) = 0
-down (negsuc n) = suc n
 
 sub-pos : (a b : ℕ) → b ≤ a → subℕ a b ≡ pos (a - b)
 sub-pos a b h = rw le-ltb
@@ -124,11 +121,8 @@ lightest-over S (suc n) =
     taken a b (pos u) = rw (le-ltb u 0 (omega arith)) (sub-add a b (pos 0) ∙ ap (λ x. subℕ x (b + 0)) (omega arith))
     taken a b (negsuc v) = sub-add a b (negsuc v) ∙ ap (λ x. subℕ x (b + suc v)) (omega arith)
 
--- the end load plus all negative changes is not below zero: all that is taken away is at most the end load
-abbrev pub Light : Sheet → Type 0
-Light S = sumBelow (S .tasks) (λ j. down (S .change j)) ≤ S .endLoad
-
-light-is : (S : Sheet) → tooLight S ≡ ltb (S .endLoad) (sumBelow (S .tasks) (λ j. down (S .change j)))
+-- 16 compares the two
+pub light-is : (S : Sheet) → tooLight S ≡ ltb (S .endLoad) (sumBelow (S .tasks) (λ j. down (S .change j)))
 unfolding tooLight
 light-is S = ap (λ x. ltZ x (pos 0)) (lightest-over S (S .tasks)) ∙ sub-negative (S .endLoad) _
 

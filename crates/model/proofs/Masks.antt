@@ -3,16 +3,17 @@ use mathlib.Core.Path.{_≡_, refl, sym, ap, _∙_}
 use mathlib.Core.Logic.{_≢_, _⊎_, inl, inr, ⊎-elim}
 use mathlib.Core.Bool.{true, false, cond}
 use Prim.Native.Nat.{ℕ, zero, suc, _+_, _-_, _/_, _%_, _^_, _≤_, _<_}
-use native.Mathlib.Nat.{div-one, div-div-eq-div-mul, pow-succ', mod-lt, zero-lt-suc, zero-div, add-zero}
+use native.Mathlib.Nat.{add-zero, pow-succ', mod-lt, zero-lt-suc, zero-div, div-one, div-div-eq-div-mul}
 use native.Mathlib.Decide.{le-ind}
 use native.Mathlib.Omega.{arith}
 use lib.Dec.{leb}
 use lib.Pow.{pow-pos, pow-mono}
-use borrow.Author.Tests.{eqb-true, eqb-false, eq-eqb, le-leb, lt-ltb}
+use borrow.Author.Tests.{eqb-true, eqb-false, eq-eqb, lt-ltb, le-leb}
 use Rattle.model.specs.Folds.{sumBelow, countBelow}
-use Rattle.model.specs.TaskList.{bit, member, with, without, full, size, watchedIn, withIn, maxListed, listsOf, fullOf}
+use Rattle.model.specs.TaskList.{bit, member, with, without, full, size, watchedIn}
+use Rattle.model.specs.Method.{withIn, maxListed, listsOf, fullOf}
 use Rattle.model.proofs.Tests.{tested}
-use Rattle.model.proofs.Folds.{sum-cong, sum-none, sum-more, sum-zero, sum-le}
+use Rattle.model.proofs.Folds.{sum-cong, sum-none, sum-zero, sum-more, sum-le}
 
 -- ---- bits
 

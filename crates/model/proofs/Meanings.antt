@@ -1,22 +1,23 @@
 -- What the tests of specs/ say, in the language of logic: a reader may believe either. Assumes nothing.
 use mathlib.Core.Path.{_≡_, refl, sym, ap, _∙_}
-use mathlib.Core.Logic.{_≢_, _↔_, ⊎-elim}
+use mathlib.Core.Logic.{_≢_, ⊎-elim, _↔_}
 use mathlib.Core.Bool.{Bool, true, false, not, _&&_, _||_, false≢true}
 use mathlib.Core.List.{List, [], _∷_, map, List·Memᴰ, List·Memᴰ·head, List·Memᴰ·tail, List·Memᴰ·not-nil, List·Memᴰ·cases-cons}
-use Prim.Native.Nat.{ℕ, _^_, _≤_, _<_}
+use Prim.Native.Nat.{ℕ, _^_, _<_}
 use native.Mathlib.Omega.{arith}
 use lib.Dec.{eqb, ltb}
-use borrow.Author.Tests.{eqb-true, eqb-false, ne-eqb, ltb-true, ltb-false, lt-ltb, not-true}
+use borrow.Author.Tests.{not-true, eqb-true, eqb-false, ne-eqb, ltb-true, ltb-false, lt-ltb}
 use Rattle.model.specs.Folds.{allBelow, countOf, indexOf}
 use Rattle.model.specs.TaskList.{bit, member, with, full, maskOf}
 use Rattle.model.specs.Sheet.{Sheet}
-use Rattle.model.specs.Orders.{isOrder, keepsPair, keepsEveryPair, essential, pairWithin, keepsPairsWithin, isOrderWithin}
+use Rattle.model.specs.Orders.{isOrder, keepsPair, keepsEveryPair, pairWithin, keepsPairsWithin, isOrderWithin, essential}
 use Rattle.model.specs.Plans.{inSheet, isSolution, isCompletion}
+use Rattle.model.specs.Meanings.{SolutionMeans, CompletionMeans}
 use Rattle.model.proofs.Tests.{tested, and-left, and-right, and-both, all-at, all-below}
-use Rattle.model.proofs.Masks.{bit-none, member-bit, bit-member, with-same, with-other, bit-above, full-bit, full-lt}
-use Rattle.model.proofs.Lists.{All, all-in, in-all, all-imply}
+use Rattle.model.proofs.Masks.{bit-none, member-bit, bit-member, bit-above, full-bit, full-lt, with-same, with-other}
+use Rattle.model.proofs.Lists.{all-member, member-all, all-imply, all-in, in-all}
 use Rattle.model.proofs.Counting.{order-means}
-use Rattle.model.proofs.Solutions.{Solution, solution, is-solution}
+use Rattle.model.proofs.Solutions.{SolutionTests, solution, is-solution}
 
 -- the list of the tasks ts has just those tasks
 pub mask-means : (ts : List ℕ) (t : ℕ) → (member (maskOf ts) t ≡ true) ↔ List·Memᴰ t ts
@@ -69,23 +70,14 @@ essential-means S K = (there, back)
     back h = and-both (ap not (ne-eqb K 0 (h .0))) (all-below (S .pairs) closed (λ i l. eno (member K (S .sender i)) (member K (S .receiver i)) (h .1 i l)))
 
 -- each door is one of the sheet's
-doors-mean : (S : Sheet) (ds : List ℕ) → (inSheet S ds ≡ true) ↔ All (λ d. d < S .doors) ds
+doors-mean : (S : Sheet) (ds : List ℕ) → (inSheet S ds ≡ true) ↔ ((d : ℕ) → List·Memᴰ d ds → d < S .doors)
 unfolding inSheet
 doors-mean S ds = (
-  λ h. all-imply _ _ (λ d e. ltb-true d (S .doors) e) ds (all-in (λ d. ltb d (S .doors)) ds h),
-  λ h. in-all (λ d. ltb d (S .doors)) ds (all-imply _ _ (λ d l. lt-ltb d (S .doors) l) ds h),
+  λ h. all-member _ ds (all-imply _ _ (λ d e. ltb-true d (S .doors) e) ds (all-in (λ d. ltb d (S .doors)) ds h)),
+  λ h. in-all (λ d. ltb d (S .doors)) ds (member-all _ ds (λ d m. lt-ltb d (S .doors) (h d m))),
 )
 
--- a solution: the start is one of the sheet's, and so is each door; of the tasks as driven each of the sheet's stands once and nothing else stands there; and of
--- each pair the sender stands before the receiver
-pub record Solves (S : Sheet) (s : ℕ) (ds : List ℕ) : Type 0 where
-  pub start : s < S .starts
-  pub doors : All (λ d. d < S .doors) ds
-  pub once : (t : ℕ) → t < S .tasks → countOf t (map (S .task) ds) ≡ 1
-  pub nothing-else : (t : ℕ) → S .tasks ≤ t → countOf t (map (S .task) ds) ≡ 0
-  pub pairs : (i : ℕ) → i < S .pairs → indexOf (S .sender i) (map (S .task) ds) < indexOf (S .receiver i) (map (S .task) ds)
-
-pub solution-means : (S : Sheet) (s : ℕ) (ds : List ℕ) → (isSolution S s ds ≡ true) ↔ Solves S s ds
+pub solution-means : (S : Sheet) (s : ℕ) (ds : List ℕ) → (isSolution S s ds ≡ true) ↔ SolutionMeans S s ds
 unfolding inSheet keepsEveryPair keepsPair
 solution-means S s ds = (there, back)
   where
@@ -95,9 +87,9 @@ solution-means S s ds = (there, back)
     counts : (isOrder (S .tasks) (full (S .tasks)) ts ≡ true) ↔ ((t : ℕ) → countOf t ts ≡ bit (full (S .tasks)) t)
     counts = order-means (S .tasks) (full (S .tasks)) ts (full-lt (S .tasks))
 
-    there : isSolution S s ds ≡ true → Solves S s ds
+    there : isSolution S s ds ≡ true → SolutionMeans S s ds
     there h =
-        let x : Solution S s ds = solution S s ds h in
+        let x : SolutionTests S s ds = solution S s ds h in
         record {
           start = x .start;
           doors = doors-mean S ds .0 (x .doors);
@@ -106,7 +98,7 @@ solution-means S s ds = (there, back)
           pairs = λ i l. ltb-true _ _ (all-at (S .pairs) (keepsPair S ts) (x .pairs) i l);
         }
 
-    back : Solves S s ds → isSolution S s ds ≡ true
+    back : SolutionMeans S s ds → isSolution S s ds ≡ true
     back h = is-solution S s ds (record {
       start = h .start;
       doors = doors-mean S ds .1 (h .doors);
@@ -117,15 +109,7 @@ solution-means S s ds = (there, back)
       pairs = all-below (S .pairs) (keepsPair S ts) (λ i l. lt-ltb _ _ (h .pairs i l));
     })
 
--- a completion of K: each door is one of the sheet's; of the tasks as driven each of K stands once and nothing else stands there; and of each pair with both
--- its tasks in K the sender stands before the receiver
-pub record Completes (S : Sheet) (K : ℕ) (ds : List ℕ) : Type 0 where
-  pub doors : All (λ d. d < S .doors) ds
-  pub once : (t : ℕ) → countOf t (map (S .task) ds) ≡ bit K t
-  pub pairs : (i : ℕ) → i < S .pairs → member K (S .sender i) ≡ true → member K (S .receiver i) ≡ true
-      → indexOf (S .sender i) (map (S .task) ds) < indexOf (S .receiver i) (map (S .task) ds)
-
-pub completion-means : (S : Sheet) (K : ℕ) (ds : List ℕ) → K < 2 ^ S .tasks → (isCompletion S K ds ≡ true) ↔ Completes S K ds
+pub completion-means : (S : Sheet) (K : ℕ) (ds : List ℕ) → K < 2 ^ S .tasks → (isCompletion S K ds ≡ true) ↔ CompletionMeans S K ds
 unfolding isCompletion isOrderWithin keepsPairsWithin pairWithin keepsPair
 completion-means S K ds below = (there, back)
   where
@@ -145,7 +129,7 @@ completion-means S K ds below = (there, back)
     eno true false c h = refl
     eno false b c h = refl
 
-    there : (inSheet S ds && (isOrder (S .tasks) K ts && allBelow (S .pairs) kept)) ≡ true → Completes S K ds
+    there : (inSheet S ds && (isOrder (S .tasks) K ts && allBelow (S .pairs) kept)) ≡ true → CompletionMeans S K ds
     there h =
         let o = and-right (inSheet S ds) (isOrder (S .tasks) K ts && allBelow (S .pairs) kept) h in
         record {
@@ -155,6 +139,6 @@ completion-means S K ds below = (there, back)
               (all-at (S .pairs) kept (and-right (isOrder (S .tasks) K ts) (allBelow (S .pairs) kept) o) i l) p q);
         }
 
-    back : Completes S K ds → (inSheet S ds && (isOrder (S .tasks) K ts && allBelow (S .pairs) kept)) ≡ true
+    back : CompletionMeans S K ds → (inSheet S ds && (isOrder (S .tasks) K ts && allBelow (S .pairs) kept)) ≡ true
     back h = and-both (doors-mean S ds .1 (h .doors)) (and-both (order-means (S .tasks) K ts below .1 (h .once))
         (all-below (S .pairs) kept (λ i l. eno (member K (S .sender i)) (member K (S .receiver i)) _ (λ p q. lt-ltb _ _ (h .pairs i l p q)))))

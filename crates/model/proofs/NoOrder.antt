@@ -1,23 +1,25 @@
 -- Fault 17: no order of the tasks keeps every pair exactly where striking off, again and again, tasks that can come first leaves something. Assumes nothing.
 use mathlib.Core.Path.{_≡_, refl, sym, ap, _∙_, subst}
-use mathlib.Core.Logic.{_↔_, _⊎_, inl, inr, ⊎-elim}
+use mathlib.Core.Logic.{_⊎_, inl, inr, ⊎-elim, _↔_}
 use mathlib.Core.Bool.{Bool, true, false, cond, not}
 use mathlib.Core.List.{List, [], _∷_}
 use Prim.Native.Nat.{ℕ, zero, suc, _+_, _^_, _≤_, _<_}
 use native.Mathlib.Omega.{arith}
 use lib.Dec.{eqb}
-use borrow.Author.Tests.{eqb-true, eqb-false, ne-eqb, not-true}
+use borrow.Author.Tests.{not-true, eqb-true, eqb-false, ne-eqb}
 use Rattle.model.specs.TaskList.{bit, without, full, size}
 use Rattle.model.specs.Sheet.{Sheet}
-use Rattle.model.specs.Orders.{isAdmissible, isOrderWithin, noOrder, canComeFirst, strikeBelow, strikeOff}
+use Rattle.model.specs.Orders.{isAdmissible, isOrderWithin, noOrder}
+use Rattle.model.specs.Method.{canComeFirst, strikeBelow, strikeOff}
 use Rattle.model.proofs.Tests.{tested, same-test, not-both, and-both, eq-or-lt}
-use Rattle.model.proofs.Masks.{without-same, without-other, without-le, size-none, size-zero, size-full, size-without, full-lt}
+use Rattle.model.proofs.Masks.{full-lt, without-same, without-other, without-le, size-none, size-without, size-zero, size-full}
 use Rattle.model.specs.Answer.{Answer, refused, accepted, refuseIf}
 use Rattle.model.specs.SheetLayout.{decode}
-use Rattle.model.specs.Faults.{Counts, tooLight, readSheet}
-use Rattle.model.proofs.Ranges.{InRange}
-use Rattle.model.proofs.Reading.{refused≢accepted, Passed, light-then}
-use Rattle.model.proofs.FirstTask.{within-cons, within-uncons, first-bit, nil-size, size-nil}
+use Rattle.model.specs.Faults.{tooLight, Counts, readSheet}
+use Rattle.model.specs.Passing.{InRange}
+use Rattle.model.proofs.Reading.{Cleared, light-then}
+use Rattle.model.proofs.Refusing.{refused≢accepted}
+use Rattle.model.proofs.FirstTask.{within-cons, first-bit, within-uncons, nil-size, size-nil}
 use Rattle.model.proofs.Existence.{part, part-within, admissible-is}
 use Rattle.model.proofs.Enumerations.{has-order, no-order-iff}
 
@@ -145,7 +147,7 @@ module _ (S : Sheet) (R : InRange S) where
       go false e h = let o = has-order S e in absurd (h (off-empty (o .0, sym (admissible-is S R (o .0)) ∙ o .1)))
 
 -- a sheet that passes 10 to 16 is refused with 17 exactly where no order of the tasks keeps every pair
-pub gets-17 : (b : List ℕ) → Passed b → tooLight (decode b) ≡ false → (readSheet b ≡ refused 17) ↔ ((ts : List ℕ) → isAdmissible (decode b) ts ≡ true → ⊥)
+pub gets-17 : (b : List ℕ) → Cleared b → tooLight (decode b) ≡ false → (readSheet b ≡ refused 17) ↔ ((ts : List ℕ) → isAdmissible (decode b) ts ≡ true → ⊥)
 unfolding readSheet
 gets-17 b h l = (
   λ (e : readSheet b ≡ refused 17). no-order-iff (decode b) .0 (go (noOrder (decode b)) (sym (light-then b counts h l) ∙ e)),

@@ -8,11 +8,12 @@ use lib.Dec.{eqb, ltb}
 use lib.ListN.{drop}
 use Rattle.model.specs.TaskList.{member, without, full, maskOf}
 use Rattle.model.specs.Sheet.{Sheet}
-use Rattle.model.specs.Orders.{isAdmissible, essential, pairsAllow, canComeFirst}
+use Rattle.model.specs.Orders.{isAdmissible, essential, pairsAllow}
+use Rattle.model.specs.Method.{canComeFirst}
 use Rattle.model.specs.Plans.{inSheet, isSolution, isCompletion}
 use Rattle.model.proofs.Tests.{and-left, and-right, and-both, all-below}
-use Rattle.model.proofs.Masks.{without-le, full-bit, full-lt}
-use Rattle.model.proofs.Ranges.{InRange}
+use Rattle.model.proofs.Masks.{full-bit, full-lt, without-le}
+use Rattle.model.specs.Passing.{InRange}
 use Rattle.model.proofs.FirstTask.{allow-without}
 use Rattle.model.proofs.Completions.{completes-is, open-is}
 use Rattle.model.proofs.Existence.{admissible-is}

@@ -1,8 +1,8 @@
--- A sheet that passes 10 to 15, in plain words: the layout, number for number, and nothing out of range. Assumes nothing.
+-- A sheet passes the tests of 10 to 15 exactly where the facts of `Passes` hold of it; how long it then is, and that no field lies beyond its end. Assumes nothing.
 use mathlib.Core.Path.{_≡_, ap}
 use mathlib.Core.Bool.{not}
 use mathlib.Core.List.{List, []}
-use mathlib.Core.Logic.{_↔_, ⊎-elim}
+use mathlib.Core.Logic.{⊎-elim, _↔_}
 use Prim.Native.Nat.{ℕ, zero, suc, _+_, _*_, _≤_, _<_}
 use native.Mathlib.Nat.{mul-le-mul, mul-le-mul-right}
 use native.Mathlib.Omega.{arith}
@@ -10,73 +10,60 @@ use lib.Dec.{eqb, lit<}
 use lib.ListN.{length, getD}
 use borrow.Author.Tests.{eqb-true, eq-eqb, ltb-false, le-ltb, not-false}
 use Rattle.model.specs.Folds.{anyBelow, sumBelow}
-use Rattle.model.specs.Bytes.{numberAt}
-use Rattle.model.specs.SheetLayout.{Layout, bodies, kind1, lineAt, lineBody, lineOffset, entries, bodyAt, fieldWidth, bytesBefore, entryBytes, decode}
-use Rattle.model.specs.Faults.{tooShort, wrongKind, wrongEntries, wrongLine, wrongLength}
-use Rattle.model.proofs.Tests.{eq-or-lt, or-left, or-right, or-neither, none-at, none-below, between-is}
-use Rattle.model.proofs.Limits.{EntriesWithin, entries-within}
-use Rattle.model.proofs.Ranges.{InRange, in-range, range-passes, LeastCounts, least-counts, Served, served, served-passes}
-use Rattle.model.proofs.Reading.{Passed}
+use Rattle.model.specs.SheetLayout.{Layout, bodies, kind1, fieldWidth, bytesBefore, entryBytes, lineAt, lineBody, entries, bodyAt, layoutOf, decode}
+use Rattle.model.specs.Faults.{tooShort, wrongKind, wrongEntries, someWrongEntries, wrongLine, wrongLength, wrongPlaces}
+use Rattle.model.specs.Passing.{EntriesWithin, Passes}
+use Rattle.model.proofs.Tests.{or-left, or-right, or-neither, eq-or-lt, between-is, none-at, none-below}
+use Rattle.model.proofs.Entries.{entries-within}
+use Rattle.model.proofs.Ranges.{in-range, least-counts, range-passes, served, served-passes}
+use Rattle.model.proofs.Reading.{Cleared}
 
-pub record Passes (b : List ℕ) : Type 0 where
-  -- 10: the head is there
-  pub long : 46 ≤ length b
-  -- 11: the kind is 1
-  pub kind : numberAt 2 b 0 ≡ 1
-  -- 12: the numbers of entries are within the table
-  pub counts : EntriesWithin kind1 b
-  -- 13: each contents line names its body and the place where it starts, and the sheet ends with its last body
-  pub lines : (i : ℕ) → i < bodies → (lineBody b i ≡ suc i) × (lineOffset b i ≡ bodyAt kind1 b i)
-  pub ends : length b ≡ bodyAt kind1 b bodies
-  -- 14: tasks, points, doors, watched tasks and least counts are in range
-  pub ranges : InRange (decode b)
-  pub leastCounts : LeastCounts kind1 (decode b)
-  -- 15: every task has a door
-  pub doors : Served (decode b)
-
-pub passes-iff : (b : List ℕ) → Passed b ↔ Passes b
-unfolding tooShort wrongKind wrongEntries wrongLine wrongLength kind1 lineAt
+pub passes-iff : (b : List ℕ) → Cleared b ↔ Passes b
+unfolding tooShort wrongKind someWrongEntries wrongEntries wrongPlaces wrongLine wrongLength lineAt
 passes-iff b = (there, back)
   where
-    there : Passed b → Passes b
+    there : Cleared b → Passes b
     there h = record {
       long = ltb-false _ _ (h .long);
       kind = eqb-true _ _ (not-false _ (h .kind));
-      counts = entries-within kind1 b (h .counts);
-      lines = λ i l. let w = none-at bodies (wrongLine kind1 b) (or-left (anyBelow bodies (wrongLine kind1 b)) _ (h .places)) i l in
+      counts = entries-within (layoutOf b) b (h .counts);
+      lines = λ i l. let w = none-at bodies (wrongLine (layoutOf b) b) (or-left (anyBelow bodies (wrongLine (layoutOf b) b)) _ (h .places)) i l in
           (eqb-true _ _ (not-false _ (or-left (not (eqb (lineBody b i) (suc i))) _ w)), eqb-true _ _ (not-false _ (or-right (not (eqb (lineBody b i) (suc i))) _ w)));
-      ends = eqb-true _ _ (not-false _ (or-right (anyBelow bodies (wrongLine kind1 b)) _ (h .places)));
-      ranges = in-range kind1 (decode b) (h .ranges);
-      leastCounts = least-counts kind1 (decode b) (h .ranges);
+      ends = eqb-true _ _ (not-false _ (or-right (anyBelow bodies (wrongLine (layoutOf b) b)) _ (h .places)));
+      ranges = in-range (layoutOf b) (decode b) (h .ranges);
+      leastCounts = least-counts (layoutOf b) (decode b) (h .ranges);
       doors = served (decode b) (h .doors);
     }
 
-    back : Passes b → Passed b
+    back : Passes b → Cleared b
     back h = record {
       long = le-ltb _ _ (h .long);
       kind = ap not (eq-eqb _ _ (h .kind));
-      counts = none-below bodies (wrongEntries kind1 b) (λ i l. ap not (between-is _ _ _ (h .counts i l .0) (h .counts i l .1)));
+      counts = none-below bodies (wrongEntries (layoutOf b) b) (λ i l. ap not (between-is _ _ _ (h .counts i l .0) (h .counts i l .1)));
       places = or-neither
-          (none-below bodies (wrongLine kind1 b) (λ i l. or-neither (ap not (eq-eqb _ _ (h .lines i l .0))) (ap not (eq-eqb _ _ (h .lines i l .1)))))
+          (none-below bodies (wrongLine (layoutOf b) b) (λ i l. or-neither (ap not (eq-eqb _ _ (h .lines i l .0))) (ap not (eq-eqb _ _ (h .lines i l .1)))))
           (ap not (eq-eqb _ _ (h .ends)));
-      ranges = range-passes kind1 (decode b) (h .ranges) (h .leastCounts);
+      ranges = range-passes (layoutOf b) (decode b) (h .ranges) (h .leastCounts);
       doors = served-passes (decode b) (h .doors);
     }
 
 -- the shortest sheet has 66 bytes, the longest 9,638
-pub length-between : (b : List ℕ) → Passes b → (66 ≤ length b) × (length b ≤ 9638)
-unfolding kind1 entryBytes bytesBefore fieldWidth lineAt
-length-between b h =
-    let n = h .counts 0 (lit< tt) in
-    let d = h .counts 1 (lit< tt) in
-    let s = h .counts 2 (lit< tt) in
-    let q = h .counts 3 (lit< tt) in
-    let r = h .counts 4 (lit< tt) in
-    let p = h .counts 5 (lit< tt) in
-    let m = h .counts 6 (lit< tt) in
+pub end-between : (b : List ℕ) → EntriesWithin (layoutOf b) b → (66 ≤ bodyAt (layoutOf b) b bodies) × (bodyAt (layoutOf b) b bodies ≤ 9638)
+unfolding layoutOf kind1 entryBytes bytesBefore fieldWidth lineAt
+end-between b h =
+    let n = h 0 (lit< tt) in
+    let d = h 1 (lit< tt) in
+    let s = h 2 (lit< tt) in
+    let q = h 3 (lit< tt) in
+    let r = h 4 (lit< tt) in
+    let p = h 5 (lit< tt) in
+    let m = h 6 (lit< tt) in
     let lo : 1 * 1 ≤ entries b 5 * entries b 5 = mul-le-mul (p .0) (p .0) in
     let hi : entries b 5 * entries b 5 ≤ 64 * 64 = mul-le-mul (p .1) (p .1) in
-    (omega (arith, h .ends, n, d, s, m, lo), omega (arith, h .ends, n, d, s, q, r, m, hi))
+    (omega (arith, n, d, s, m, lo), omega (arith, n, d, s, q, r, m, hi))
+
+pub length-between : (b : List ℕ) → Passes b → (66 ≤ length b) × (length b ≤ 9638)
+length-between b h = rw (h .ends) (end-between b (h .counts))
 
 -- ---- no field lies beyond the end
 

@@ -6,18 +6,18 @@ use mathlib.Core.List.{List, [], _∷_, _++_, append-assoc, append-nil}
 use Prim.Native.Nat.{ℕ, _+_, _*_, _^_, _≤_, _<_}
 use native.Mathlib.Omega.{arith}
 use lib.Dec.{eqb, ltb}
-use lib.ListN.{length, getD, take, drop, length-append, drop-of-length-le}
+use lib.ListN.{length, getD, take, drop, drop-of-length-le, length-append}
 use lib.Pow.{areBytes}
-use lib.Seq.{length-take-le, take-at, take-all, getD-take, ext-getD}
-use borrow.Author.Tests.{ltb-true, ltb-false, eqb-true, eq-eqb, lt-ltb, le-ltb, not-false}
-use Rattle.model.specs.Folds.{mapBelow, isBetween}
+use lib.Seq.{take-all, getD-take, length-take-le, take-at, ext-getD}
+use borrow.Author.Tests.{eqb-true, eq-eqb, ltb-true, ltb-false, lt-ltb, le-ltb, not-false}
+use Rattle.model.specs.Folds.{isBetween, mapBelow}
 use Rattle.model.specs.Bytes.{numberAt, bytesOf, overwrite}
-use Rattle.model.specs.Answer.{Answer, refused, accepted, refuseIf}
+use Rattle.model.specs.Answer.{Answer, refused, accepted, _when_, refuseFirst}
 use Rattle.model.specs.SheetLayout.{lineAt}
-use Rattle.model.specs.PlanLayout.{maxPlanDoors, planStartAt, planDoorsAt, planCostAt, planLength, lineBytes, planHead, planBytes, wrongTasks, writeAnswer, bytesWritten, writePlan, illFormed, startIn, doorIn, doorsIn, costIn, doorArray, PlanRead, readPlan}
-use Rattle.model.proofs.Tests.{tested, or-left, or-right, or-neither, same-list, list-same, between-true, between-is}
+use Rattle.model.specs.PlanLayout.{maxPlanDoors, planStartAt, planDoorsAt, planCostAt, planLength, lineBytes, planHead, doorBytes, planBytes, wrongTasks, shortRoom, writeTests, writeAnswer, bytesWritten, writePlan, wrongHead, illFormed, startIn, doorIn, doorsIn, costIn, doorArray, PlanRead, readTests, readPlan}
+use Rattle.model.proofs.Tests.{tested, or-left, or-right, or-neither, between-true, between-is, same-list, list-same}
 use Rattle.model.proofs.Folds.{flat-cong, length-mapBelow, mapBelow-at}
-use Rattle.model.proofs.Reading.{refused≢accepted, refused-number, accepted-value, passed}
+use Rattle.model.proofs.Refusing.{refused≢accepted, refused-number, accepted-value, accepted-pass}
 use Rattle.model.proofs.Numbers.{length-bytesOf, number-front, read-last, written-on, row, length-row, read-row, row-on, overwritten}
 
 -- ---- the parts of a plan
@@ -58,12 +58,12 @@ length-to-doors n s ds = simp (length-append, length-head, length-bytesOf, lengt
 
 -- a plan has the length that its layout says
 pub length-plan : (n s : ℕ) (ds : List ℕ) (c : ℕ) → length (planBytes n s ds c) ≡ planLength n
-unfolding planBytes planLength planCostAt planDoorsAt
+unfolding planBytes doorBytes planLength planCostAt planDoorsAt
 length-plan n s ds c = simp (length-append, length-head, length-bytesOf, length-row)
 
 -- only the first n of the doors are written
 pub plan-cong : (n s : ℕ) (ds es : List ℕ) (c : ℕ) → ((i : ℕ) → i < n → getD ds i 0 ≡ getD es i 0) → planBytes n s ds c ≡ planBytes n s es c
-unfolding planBytes
+unfolding planBytes doorBytes
 plan-cong n s ds es c h =
     ap (λ (x : List ℕ). toStart n s ++ x ++ bytesOf 8 c) (flat-cong n (λ i. bytesOf 2 (getD ds i 0)) (λ i. bytesOf 2 (getD es i 0)) (λ i l. ap (bytesOf 2) (h i l)))
 
@@ -76,15 +76,15 @@ length-doors n q = length-mapBelow n (doorIn q)
 
 -- what is written is not ill-formed
 plan-head : (n s : ℕ) (ds : List ℕ) (c : ℕ) → take planStartAt (planBytes n s ds c) ≡ planHead n
-unfolding planBytes
+unfolding planBytes doorBytes
 plan-head n s ds c = simp append-assoc (take-at (planHead n) _ planStartAt (length-head n))
 
 pub plan-well-formed : (n s : ℕ) (ds : List ℕ) (c : ℕ) → illFormed n (planBytes n s ds c) ≡ false
-unfolding illFormed
+unfolding illFormed wrongHead
 plan-well-formed n s ds c = rw (eq-eqb _ _ (length-plan n s ds c), plan-head, list-same)
 
 before-cost : (k n s : ℕ) (ds : List ℕ) (c i : ℕ) → i + k ≤ planCostAt n → numberAt k (planBytes n s ds c) i ≡ numberAt k (toDoors n s ds) i
-unfolding planBytes
+unfolding planBytes doorBytes
 before-cost k n s ds c i h = number-front k (toDoors n s ds) (bytesOf 8 c) i (rw length-to-doors h)
 
 -- and its parts are read again: the start, a door, all doors, the cost
@@ -108,7 +108,7 @@ doors-again n s ds c e h = ext-getD 0 _ ds (length-doors n (planBytes n s ds c) 
     mapBelow-at n (doorIn (planBytes n s ds c)) i 0 m ∙ door-again n s ds c i m (h i m))
 
 pub cost-again : (n s : ℕ) (ds : List ℕ) (c : ℕ) → c < 2 ^ 64 → costIn n (planBytes n s ds c) ≡ c
-unfolding costIn planBytes
+unfolding costIn planBytes doorBytes
 cost-again n s ds c h = rw (← length-to-doors n s ds) (read-last 8 c (toDoors n s ds) h)
 
 -- the array that reading fills
@@ -136,7 +136,7 @@ array-front lent n ds h e =
 -- a plan written and then read has its start, doors and cost again
 pub read-what-was-written : (n lent s : ℕ) (ds : List ℕ) (c : ℕ) → wrongTasks n lent ≡ false → s < 2 ^ 16 → ((i : ℕ) → i < n → getD ds i 0 < 2 ^ 16) → c < 2 ^ 64
     → readPlan n lent (planBytes n s ds c) ≡ accepted (record { start = s; doors = doorArray lent n (λ i. getD ds i 0); cost = c })
-unfolding readPlan
+unfolding readPlan readTests
 read-what-was-written n lent s ds c t hs hd hc = rw (t, plan-well-formed n s ds c) (λ j. accepted (record {
   start = start-again n s ds c hs j;
   doors = array-cong lent n (doorIn (planBytes n s ds c)) (λ i. getD ds i 0) (λ i l. door-again n s ds c i l (hd i l)) j;
@@ -147,7 +147,7 @@ read-what-was-written n lent s ds c t hs hd hc = rw (t, plan-well-formed n s ds 
 
 -- the bytes of a plan that is not ill-formed, from its parts
 pub well-formed-is : (n : ℕ) (q : List ℕ) → areBytes q ≡ true → illFormed n q ≡ false → planBytes n (startIn q) (doorsIn n q) (costIn n q) ≡ q
-unfolding illFormed startIn doorsIn doorIn costIn planBytes planLength planCostAt planDoorsAt
+unfolding illFormed wrongHead startIn doorsIn doorIn costIn planBytes doorBytes planLength planCostAt planDoorsAt
 well-formed-is n q b h =
     let long : length q ≡ planLength n = eqb-true _ _ (not-false _ (or-left (not (eqb (length q) (planLength n))) _ h)) in
     let head : take planStartAt q ≡ planHead n = same-list _ _ (not-false _ (or-right (not (eqb (length q) (planLength n))) _ h)) in
@@ -161,37 +161,34 @@ well-formed-is n q b h =
 
 -- bytes that read as a plan are as many as its layout says
 pub read-length : (n lent : ℕ) (q : List ℕ) (r : PlanRead) → readPlan n lent q ≡ accepted r → (wrongTasks n lent ≡ false) × (length q ≡ planLength n) × (length (r .doors) ≡ lent)
-unfolding readPlan illFormed
+unfolding readPlan readTests illFormed wrongHead
 read-length n lent q r e =
-    let e₁ = passed (wrongTasks n lent) 12 _ r e in
-    let e₂ = passed (illFormed n q) 30 _ r (e₁ .1) in (
-      e₁ .0,
-      eqb-true _ _ (not-false _ (or-left (not (eqb (length q) (planLength n))) _ (e₂ .0))),
-      subst (λ (x : PlanRead). length (x .doors) ≡ lent) (accepted-value (e₂ .1)) (length-array lent n (doorIn q)),
+    let p = accepted-pass (readTests n lent q) _ r e in (
+      p .0 .0,
+      eqb-true _ _ (not-false _ (or-left (not (eqb (length q) (planLength n))) _ (p .0 .1 .0))),
+      subst (λ (x : PlanRead). length (x .doors) ≡ lent) (accepted-value (p .1)) (length-array lent n (doorIn q)),
     )
 
 -- bytes that read as a plan are those that writing it yields
 pub write-what-was-read : (n lent : ℕ) (q : List ℕ) (r : PlanRead) → areBytes q ≡ true → readPlan n lent q ≡ accepted r → planBytes n (r .start) (r .doors) (r .cost) ≡ q
-unfolding readPlan doorsIn
+unfolding readPlan readTests doorsIn
 write-what-was-read n lent q r b e =
-    let e₁ = passed (wrongTasks n lent) 12 _ r e in
-    let e₂ = passed (illFormed n q) 30 _ r (e₁ .1) in
-    let h : n ≤ lent = fitting n lent (e₁ .0) .2 in
-    subst (λ (x : PlanRead). planBytes n (x .start) (x .doors) (x .cost) ≡ q) (accepted-value (e₂ .1))
+    let p = accepted-pass (readTests n lent q) _ r e in
+    let h : n ≤ lent = fitting n lent (p .0 .0) .2 in
+    subst (λ (x : PlanRead). planBytes n (x .start) (x .doors) (x .cost) ≡ q) (accepted-value (p .1))
     (plan-cong n (startIn q) (doorArray lent n (doorIn q)) (doorsIn n q) (costIn n q) (λ i l. array-at lent n (doorIn q) i h l ∙ sym (mapBelow-at n (doorIn q) i 0 l))
-    ∙ well-formed-is n q b (e₂ .0))
+    ∙ well-formed-is n q b (p .0 .1 .0))
 
 -- they read as the same plan wherever as many doors are lent
 pub read-with : (n lent more : ℕ) (q : List ℕ) (r : PlanRead) → readPlan n lent q ≡ accepted r → n ≤ more
     → (x : PlanRead) × (readPlan n more q ≡ accepted x) × (x .start ≡ r .start) × (take n (x .doors) ≡ take n (r .doors)) × (x .cost ≡ r .cost)
-unfolding readPlan
+unfolding readPlan readTests
 read-with n lent more q r e here =
-    let e₁ = passed (wrongTasks n lent) 12 _ r e in
-    let e₂ = passed (illFormed n q) 30 _ r (e₁ .1) in
-    let f = fitting n lent (e₁ .0) in
-    let v = accepted-value (e₂ .1) in (
+    let p = accepted-pass (readTests n lent q) _ r e in
+    let f = fitting n lent (p .0 .0) in
+    let v = accepted-value (p .1) in (
       record { start = startIn q; doors = doorArray more n (doorIn q); cost = costIn n q },
-      rw (tasks-fit n more (f .0) (f .1) here, e₂ .0),
+      rw (tasks-fit n more (f .0) (f .1) here, p .0 .1 .0),
       ap (λ (x : PlanRead). x .start) v,
       first more here ∙ sym (first lent (f .2)) ∙ ap (λ (x : PlanRead). take n (x .doors)) v,
       ap (λ (x : PlanRead). x .cost) v,
@@ -208,7 +205,7 @@ pub plan-over : (n s : ℕ) (ds : List ℕ) (c : ℕ) (buffer : List ℕ)
 plan-over n s ds c buffer = rw length-plan at (overwritten (planBytes n s ds c) buffer)
 
 write-accepts : (n lent room : ℕ) → wrongTasks n lent ≡ false → planLength n ≤ room → writeAnswer n lent room ≡ accepted (planLength n)
-unfolding writeAnswer
+unfolding writeAnswer writeTests shortRoom
 write-accepts n lent room t l = rw (t, le-ltb room (planLength n) l)
 
 -- writing, where there is room
@@ -219,30 +216,30 @@ pub written : (n s : ℕ) (ds : List ℕ) (c : ℕ) (buffer : List ℕ) → wron
 unfolding writePlan bytesWritten
 written n s ds c buffer t l = let over = plan-over n s ds c buffer in rw (write-accepts n (length ds) (length buffer) t l) (refl, over .0, over .1)
 
--- a buffer of just that length holds the plan and nothing else
 -- it is written over the front of the buffer
 pub written-over : (n s : ℕ) (ds : List ℕ) (c : ℕ) (buffer : List ℕ) → wrongTasks n (length ds) ≡ false → planLength n ≤ length buffer
     → writePlan n s ds c buffer .bytes ≡ overwrite (planBytes n s ds c) buffer
 unfolding writePlan bytesWritten
 written-over n s ds c buffer t l = rw (write-accepts n (length ds) (length buffer) t l)
 
+-- a buffer of just that length holds the plan and nothing else
 pub written-whole : (n s : ℕ) (ds : List ℕ) (c : ℕ) (buffer : List ℕ) → wrongTasks n (length ds) ≡ false → length buffer ≡ planLength n → writePlan n s ds c buffer .bytes ≡ planBytes n s ds c
 unfolding writePlan bytesWritten overwrite
 written-whole n s ds c buffer t e = rw (write-accepts n (length ds) (length buffer) t (omega arith), length-plan n s ds c, drop-of-length-le buffer {i = planLength n} (omega arith)) (append-nil (planBytes n s ds c))
 
--- of two faults, one was the answer
-either : {A : Type 0} (t u : Bool) (m n : ℕ) (x : A) (r : ℕ) → refuseIf t m (refuseIf u n (accepted x)) ≡ refused r → (r ≡ m) ⊎ (r ≡ n)
-either true u m n x r e = inl (sym (refused-number e))
-either false true m n x r e = inr (sym (refused-number e))
-either false false m n x r e = absurd (refused≢accepted (sym e))
+-- of two tests, one was the answer
+either : {A : Type 0} (m n : ℕ) (t u : Bool) (x : A) (r : ℕ) → refuseFirst ((m when t) ∷ (n when u) ∷ []) (accepted x) ≡ refused r → (r ≡ m) ⊎ (r ≡ n)
+either m n true u x r e = inl (sym (refused-number e))
+either m n false true x r e = inr (sym (refused-number e))
+either m n false false x r e = absurd (refused≢accepted (sym e))
 
 -- what writing refuses, and that it then writes nothing
 pub write-refusals : (n s : ℕ) (ds : List ℕ) (c : ℕ) (buffer : List ℕ) (r : ℕ) → writePlan n s ds c buffer .answer ≡ refused r
     → ((r ≡ 12) ⊎ (r ≡ 21)) × (writePlan n s ds c buffer .bytes ≡ buffer)
-unfolding writePlan writeAnswer bytesWritten
-write-refusals n s ds c buffer r e = (either (wrongTasks n (length ds)) (ltb (length buffer) (planLength n)) 12 21 (planLength n) r e, ap (λ (a : Answer ℕ). bytesWritten a (planBytes n s ds c) buffer) e)
+unfolding writePlan writeAnswer writeTests shortRoom bytesWritten
+write-refusals n s ds c buffer r e = (either 12 21 (wrongTasks n (length ds)) (shortRoom n (length buffer)) (planLength n) r e, ap (λ (a : Answer ℕ). bytesWritten a (planBytes n s ds c) buffer) e)
 
 -- what reading refuses
 pub read-refusals : (n lent : ℕ) (q : List ℕ) (r : ℕ) → readPlan n lent q ≡ refused r → (r ≡ 12) ⊎ (r ≡ 30)
-unfolding readPlan
-read-refusals n lent q r e = either (wrongTasks n lent) (illFormed n q) 12 30 _ r e
+unfolding readPlan readTests
+read-refusals n lent q r e = either 12 30 (wrongTasks n lent) (illFormed n q) _ r e

@@ -14,19 +14,21 @@ use borrow.Author.Tests.{ltb-true, ltb-false, lt-ltb, le-ltb}
 use Rattle.model.specs.Sheet.{Sheet}
 use Rattle.model.specs.Orders.{noOrder, pairsAllow}
 use Rattle.model.specs.Plans.{Plan, cheapest, costToGo}
-use Rattle.model.specs.Answer.{Answer, refused, accepted, refuseIf}
-use Rattle.model.specs.SheetLayout.{kind1, decode}
-use Rattle.model.specs.PlanLayout.{planLength}
+use Rattle.model.specs.Answer.{Answer, refused, accepted, refuseIf, refuseFirst}
+use Rattle.model.specs.SheetLayout.{layoutOf, decode}
+use Rattle.model.specs.PlanLayout.{planLength, shortRoom}
 use Rattle.model.specs.Faults.{tooLight}
-use Rattle.model.specs.Planning.{cellsNeeded, orNoOrder, planFor, cellAfter, cellsAfter, carriedOut, plan}
+use Rattle.model.specs.Planning.{cellsNeeded, fewCells, roomTests, orNoOrder, planFor, cellAfter, cellsAfter, carriedOut, plan}
 use Rattle.model.specs.TaskList.{full}
 use Rattle.model.proofs.Tests.{tested}
 use Rattle.model.proofs.Folds.{length-mapBelow, mapBelow-at}
-use Rattle.model.proofs.Reading.{refused≢accepted, refused-number, accepted-value, passed, Reads, counts-read, Passed, light-then, accepted-reads, refused-reads}
+use Rattle.model.proofs.Reading.{Cleared, Reads, light-then, counts-read, accepted-reads, refused-reads}
 use Rattle.model.proofs.Ranges.{in-range, served}
 use Rattle.model.proofs.Cheapest.{cheapest-some}
-use Rattle.model.proofs.Driving.{Plannable, has-completion}
+use Rattle.model.proofs.Driving.{has-completion}
+use Rattle.model.specs.Passing.{Plannable}
 use Rattle.model.proofs.Starts.{solution-completes}
+use Rattle.model.proofs.Refusing.{refused≢accepted, refused-number, accepted-value, accepted-pass}
 
 -- ---- cells
 
@@ -62,9 +64,9 @@ module _ (S : Sheet) (cells : List ℕ) where
 -- ---- the answer
 
 -- with room for the cells and for the bytes, there is a plan or no order
-pub plan-for : (b : List ℕ) (cells room : ℕ) → Passed b → tooLight (decode b) ≡ false → cellsNeeded (decode b) ≤ cells → planLength (decode b .tasks) ≤ room
+pub plan-for : (b : List ℕ) (cells room : ℕ) → Cleared b → tooLight (decode b) ≡ false → cellsNeeded (decode b) ≤ cells → planLength (decode b .tasks) ≤ room
     → planFor b cells room ≡ refuseIf (noOrder (decode b)) 17 (orNoOrder (cheapest (decode b)))
-unfolding planFor
+unfolding planFor roomTests fewCells shortRoom
 plan-for b cells room h l c r = light-then b _ h l ∙ rw (le-ltb cells (cellsNeeded (decode b)) c, le-ltb room (planLength (decode b .tasks)) r)
 
 -- a plan is carried out; a refusal leaves cells and buffer as they were
@@ -87,12 +89,10 @@ refused-planned b cells buffer r = go (planFor b (length cells) (length buffer))
 
 -- a plan that is answered is the cheapest, of a sheet that reads
 pub accepted-plan : (b : List ℕ) (cells room : ℕ) (x : Plan) → planFor b cells room ≡ accepted x → Reads b × (cheapest (decode b) ≡ some x)
-unfolding planFor
+unfolding planFor roomTests
 accepted-plan b cells room x e =
     let r = accepted-reads b _ x e in
-    let p = passed (ltb cells (cellsNeeded (decode b))) 20 _ x (r .1) in
-    let q = passed (ltb room (planLength (decode b .tasks))) 21 _ x (p .1) in
-    (r .0, go (cheapest (decode b)) (q .1))
+    (r .0, go (cheapest (decode b)) (accepted-pass (roomTests (decode b) cells room) _ x (r .1) .1))
   where
     go : (o : Option Plan) → orNoOrder o ≡ accepted x → o ≡ some x
     go none h = absurd (refused≢accepted h)
@@ -100,10 +100,10 @@ accepted-plan b cells room x e =
 
 -- what planning refuses with: the sheet's own numbers, 20 and 21
 pub plan-refusals : (b : List ℕ) (cells room r : ℕ) → planFor b cells room ≡ refused r → ((10 ≤ r) × (r ≤ 17)) ⊎ ((r ≡ 20) ⊎ (r ≡ 21))
-unfolding planFor
+unfolding planFor roomTests
 plan-refusals b cells room r e = ⊎-elim inl
-    (λ (h : Reads b × (refuseIf (ltb cells (cellsNeeded (decode b))) 20 (refuseIf (ltb room (planLength (decode b .tasks))) 21 (orNoOrder (cheapest (decode b)))) ≡ refused r)).
-    go (ltb cells (cellsNeeded (decode b))) (ltb room (planLength (decode b .tasks))) (cheapest (decode b)) (h .1))
+    (λ (h : Reads b × (refuseFirst (roomTests (decode b) cells room) (orNoOrder (cheapest (decode b))) ≡ refused r)).
+    go (fewCells (decode b) cells) (shortRoom (decode b .tasks) room) (cheapest (decode b)) (h .1))
     (refused-reads b _ r e)
   where
     go : (t u : Bool) (o : Option Plan) → refuseIf t 20 (refuseIf u 21 (orNoOrder o)) ≡ refused r → ((10 ≤ r) × (r ≤ 17)) ⊎ ((r ≡ 20) ⊎ (r ≡ 21))
@@ -116,7 +116,7 @@ plan-refusals b cells room r e = ⊎-elim inl
 
 pub plannable : (b : List ℕ) → Reads b → Plannable (decode b)
 plannable b h = record {
-  ranges = in-range kind1 (decode b) (h .passed-tests .ranges);
+  ranges = in-range (layoutOf b) (decode b) (h .passed-tests .ranges);
   doors = served (decode b) (h .passed-tests .doors);
   ordered = h .ordered;
 }

@@ -1,18 +1,31 @@
--- What is printed is what planning answers with room for any plan, whatever stands in cells and buffer. Assumes nothing.
-use mathlib.Core.Path.{_≡_, refl, sym, ap, _∙_}
+-- What is printed is what planning answers with room for any plan, whatever stands in cells and buffer; and the print program loses nothing by reading no more than
+-- 9,639 bytes. Assumes nothing.
+use mathlib.Core.Path.{_≡_, refl, sym, ap, ap₂, _∙_}
 use mathlib.Core.List.{List}
 use mathlib.Core.Option.{some}
-use Prim.Native.Nat.{ℕ}
-use lib.ListN.{length}
+use mathlib.Core.Bool.{Bool, true, false, not}
+use mathlib.Core.Logic.{⊎-elim}
+use Prim.Native.Nat.{ℕ, zero, suc, _+_, _*_, _≤_, _<_}
+use lib.ListN.{length, take}
+use lib.Dec.{eqb, ltb, lit<}
+use lib.Seq.{take-all, getD-take, length-take-le}
 use Rattle.model.specs.Plans.{Plan, planCost, cheapest}
 use Rattle.model.specs.Answer.{Answer, refused, accepted}
-use Rattle.model.specs.SheetLayout.{decode}
+use Rattle.model.specs.SheetLayout.{pointsBody, bodies, lineAt, entries, bodyAt, layoutOf, decode}
 use Rattle.model.specs.PlanLayout.{maxPlanDoors, planLength, planBytes}
-use Rattle.model.specs.Bytes.{overwrite}
-use Rattle.model.specs.Planning.{planFor, plan, carriedOut}
-use Rattle.model.specs.Printing.{refusalLine, planLines, answerLines, printedWith}
-use Rattle.model.proofs.Reading.{refused≢accepted, refused-number, accepted-value, Reads}
+use Rattle.model.specs.Bytes.{numberAt, overwrite}
+use Rattle.model.specs.Planning.{planFor, carriedOut, plan}
+use Rattle.model.specs.Printing.{refusalLine, planLines, answerLines, printedWith, printed}
+use Rattle.model.specs.Folds.{anyBelow}
+use Rattle.model.specs.Faults.{tooShort, wrongKind, wrongEntries, someWrongEntries, wrongLine, wrongLength, wrongPlaces, sheetTests, unlessFault}
+use Rattle.model.proofs.Reading.{Reads}
+use Rattle.model.proofs.Refusing.{refused≢accepted, refused-number, accepted-value}
 use Rattle.model.proofs.Planning.{accepted-plan}
+use Rattle.model.proofs.Tests.{tested, or-true, any-cong}
+use Rattle.model.proofs.Passing.{end-between}
+use Rattle.model.proofs.Entries.{entries-within}
+use native.Mathlib.Omega.{arith}
+use borrow.Author.Tests.{ne-eqb, ltb-true, ltb-false, le-ltb}
 
 module _ (b cells buffer : List ℕ) (as-long : length buffer ≡ planLength maxPlanDoors) where
   same-room : planFor b (length cells) (length buffer) ≡ planFor b (length cells) (planLength maxPlanDoors)
@@ -44,3 +57,66 @@ module _ (b cells buffer : List ℕ) (as-long : length buffer ≡ planLength max
       go (accepted x) e =
           let v : planCost (decode b) x ≡ c = accepted-value e in
           (x, refl, v, ap (λ (y : ℕ). overwrite (planBytes (decode b .tasks) (x .start) (x .doors) y) buffer) v)
+
+-- ---- what is cut from a long input
+
+-- a number within the first m bytes
+number-take : (k m : ℕ) (b : List ℕ) (i : ℕ) → i + k ≤ m → numberAt k (take m b) i ≡ numberAt k b i
+unfolding numberAt
+number-take zero m b i l = refl
+number-take (suc k) m b i l = ap₂ (λ (x y : ℕ). x + 256 * y) (getD-take m b i 0 (omega arith)) (number-take k m b (suc i) (omega arith))
+
+-- a sheet longer than any is refused with 11, 12 or 13, by its first 46 bytes
+module _ (b : List ℕ) (m cells room : ℕ) (room-for : 9639 ≤ m) (long : m ≤ length b) where
+  abbrev front : List ℕ
+  front = take m b
+
+  length-front : length front ≡ m
+  length-front = length-take-le m b long
+
+  same-entries : (i : ℕ) → i < bodies → entries front i ≡ entries b i
+  unfolding entries lineAt
+  same-entries i l = number-take 2 m b _ (omega arith)
+
+  same-kind : wrongKind (layoutOf b) front ≡ wrongKind (layoutOf b) b
+  unfolding wrongKind
+  same-kind = ap (λ (n : ℕ). not (eqb n (layoutOf b .kind))) (number-take 2 m b 0 (omega arith))
+
+  same-counts : someWrongEntries (layoutOf b) front ≡ someWrongEntries (layoutOf b) b
+  unfolding someWrongEntries wrongEntries
+  same-counts = any-cong bodies (wrongEntries (layoutOf b) front) (wrongEntries (layoutOf b) b) (λ i l. rw (same-entries i l, same-entries pointsBody (lit< tt)))
+
+  -- a sheet whose numbers of entries are within the table ends before
+  too-long : (c : List ℕ) → 9639 ≤ length c → someWrongEntries (layoutOf c) c ≡ false → wrongPlaces (layoutOf c) c ≡ true
+  unfolding wrongPlaces wrongLength
+  too-long c l h = or-true (anyBelow bodies (wrongLine (layoutOf c) c)) _ (ap not (ne-eqb (length c) (bodyAt (layoutOf c) c bodies)
+      (λ e. omega (arith, end-between c (entries-within (layoutOf c) c h) .1))))
+
+  -- so both get the same number
+  pub cut-alike : (r : ℕ) × (planFor front cells room ≡ refused r) × (planFor b cells room ≡ refused r)
+  unfolding planFor unlessFault sheetTests tooShort lineAt layoutOf
+  cut-alike = go (wrongKind (layoutOf b) b) refl (someWrongEntries (layoutOf b) b) refl
+    where
+      head : (c : List ℕ) → 9639 ≤ length c → ltb (length c) 46 ≡ false
+      head c l = le-ltb (length c) 46 (omega arith)
+
+      go : (t : Bool) → wrongKind (layoutOf b) b ≡ t → (u : Bool) → someWrongEntries (layoutOf b) b ≡ u
+          → (r : ℕ) × (planFor front cells room ≡ refused r) × (planFor b cells room ≡ refused r)
+      go true e u f = (11, rw (head front (rw length-front room-for), same-kind, e), rw (head b (omega arith), e))
+      go false e true f = (12, rw (head front (rw length-front room-for), same-kind, e, same-counts, f), rw (head b (omega arith), e, f))
+      go false e false f = (
+        13,
+        rw (head front (rw length-front room-for), same-kind, e, same-counts, f, too-long front (rw length-front room-for) (same-counts ∙ f)),
+        rw (head b (omega arith), e, f, too-long b (omega arith) f),
+      )
+
+-- cutting the input at 9,639 bytes changes nothing that is printed
+pub cut-input : (input : List ℕ) → printed input ≡ printedWith 4096 input
+unfolding printed printedWith
+cut-input input = ⊎-elim
+    (λ (w : ltb (length input) 9639 ≡ true). ap (λ (b : List ℕ). answerLines (decode b) (planFor b 4096 (planLength maxPlanDoors)))
+    (take-all 9639 input (omega (arith, ltb-true (length input) 9639 w))))
+    (λ (w : ltb (length input) 9639 ≡ false).
+    let c = cut-alike input 9639 4096 (planLength maxPlanDoors) (omega arith) (ltb-false _ _ w) in
+    ap (answerLines (decode (take 9639 input))) (c .1) ∙ sym (ap (answerLines (decode input)) (c .2)))
+    (tested (ltb (length input) 9639))

@@ -1,49 +1,38 @@
 -- What 14 and 15 rule out, and nothing else: every number that a sheet names is in the sheet, and every task has a door. Assumes nothing.
 use mathlib.Core.Path.{_≡_, ap}
 use mathlib.Core.Bool.{false, not, _||_}
-use Prim.Native.Nat.{ℕ, _^_, _≤_, _<_}
+use Prim.Native.Nat.{ℕ, _^_, _<_}
 use lib.Dec.{eqb, leb}
-use borrow.Author.Tests.{eqb-true, eq-eqb, leb-false, lt-leb, not-false}
-use Rattle.model.specs.Folds.{anyBelow}
+use borrow.Author.Tests.{eqb-true, eq-eqb, lt-leb, leb-false, not-false}
 use Rattle.model.specs.Sheet.{Sheet}
 use Rattle.model.specs.SheetLayout.{Layout}
-use Rattle.model.specs.Faults.{badDoor, badStart, badPair, badRule, outOfRange, lacksDoor}
-use Rattle.model.proofs.Tests.{or-left, or-right, or-neither, none-at, none-below, all-false, one-fails, between-true, between-is}
-
-pub record InRange (S : Sheet) : Type 0 where
-  pub task : (d : ℕ) → d < S .doors → S .task d < S .tasks
-  pub arrive : (d : ℕ) → d < S .doors → S .arrive d < S .points
-  pub depart : (d : ℕ) → d < S .doors → S .depart d < S .points
-  pub start : (s : ℕ) → s < S .starts → S .startPoint s < S .points
-  pub sender : (i : ℕ) → i < S .pairs → S .sender i < S .tasks
-  pub receiver : (i : ℕ) → i < S .pairs → S .receiver i < S .tasks
-  pub ruleDoor : (i : ℕ) → i < S .rules → S .ruleDoor i < S .doors
-  pub watched : (i : ℕ) → i < S .rules → S .watched i < 2 ^ S .tasks
-
--- a least count is at least 1 and at most the layout's limit
-abbrev pub LeastCounts : Layout → Sheet → Type 0
-LeastCounts L S = (i : ℕ) → i < S .rules → (1 ≤ S .leastCount i) × (S .leastCount i ≤ L .maxLeastCount)
+use Rattle.model.specs.Faults.{badDoor, badStart, badPair, badRule, someBadDoor, someBadStart, someBadPair, someBadRule, outOfRange, lacksDoor, someLacksDoor}
+use Rattle.model.specs.Passing.{InRange, LeastCounts, Served}
+use Rattle.model.proofs.Tests.{or-left, or-right, or-neither, between-true, between-is, all-false, one-fails, none-at, none-below}
 
 module _ (L : Layout) (S : Sheet) (h : outOfRange L S ≡ false) where
-  upToPairs : (anyBelow (S .doors) (badDoor S) || anyBelow (S .starts) (badStart S) || anyBelow (S .pairs) (badPair S)) ≡ false
+  upToPairs : (someBadDoor S || someBadStart S || someBadPair S) ≡ false
   unfolding outOfRange
-  upToPairs = or-left (anyBelow (S .doors) (badDoor S) || anyBelow (S .starts) (badStart S) || anyBelow (S .pairs) (badPair S)) _ h
+  upToPairs = or-left (someBadDoor S || someBadStart S || someBadPair S) _ h
 
-  upToStarts : (anyBelow (S .doors) (badDoor S) || anyBelow (S .starts) (badStart S)) ≡ false
-  upToStarts = or-left (anyBelow (S .doors) (badDoor S) || anyBelow (S .starts) (badStart S)) _ upToPairs
+  upToStarts : (someBadDoor S || someBadStart S) ≡ false
+  upToStarts = or-left (someBadDoor S || someBadStart S) _ upToPairs
 
   door : (d : ℕ) → d < S .doors → badDoor S d ≡ false
-  door = none-at (S .doors) (badDoor S) (or-left (anyBelow (S .doors) (badDoor S)) _ upToStarts)
+  unfolding someBadDoor
+  door = none-at (S .doors) (badDoor S) (or-left (someBadDoor S) _ upToStarts)
 
   start : (s : ℕ) → s < S .starts → badStart S s ≡ false
-  start = none-at (S .starts) (badStart S) (or-right (anyBelow (S .doors) (badDoor S)) _ upToStarts)
+  unfolding someBadStart
+  start = none-at (S .starts) (badStart S) (or-right (someBadDoor S) _ upToStarts)
 
   pair : (i : ℕ) → i < S .pairs → badPair S i ≡ false
-  pair = none-at (S .pairs) (badPair S) (or-right (anyBelow (S .doors) (badDoor S) || anyBelow (S .starts) (badStart S)) _ upToPairs)
+  unfolding someBadPair
+  pair = none-at (S .pairs) (badPair S) (or-right (someBadDoor S || someBadStart S) _ upToPairs)
 
   rule : (i : ℕ) → i < S .rules → badRule L S i ≡ false
-  unfolding outOfRange
-  rule = none-at (S .rules) (badRule L S) (or-right (anyBelow (S .doors) (badDoor S) || anyBelow (S .starts) (badStart S) || anyBelow (S .pairs) (badPair S)) _ h)
+  unfolding outOfRange someBadRule
+  rule = none-at (S .rules) (badRule L S) (or-right (someBadDoor S || someBadStart S || someBadPair S) _ h)
 
   pub in-range : InRange S
   unfolding badDoor badStart badPair badRule
@@ -63,7 +52,7 @@ module _ (L : Layout) (S : Sheet) (h : outOfRange L S ≡ false) where
   least-counts i l = between-true 1 (L .maxLeastCount) (S .leastCount i) (not-false _ (or-right (leb (S .doors) (S .ruleDoor i) || leb (2 ^ S .tasks) (S .watched i)) _ (rule i l)))
 
 pub range-passes : (L : Layout) (S : Sheet) → InRange S → LeastCounts L S → outOfRange L S ≡ false
-unfolding outOfRange badDoor badStart badPair badRule
+unfolding outOfRange someBadDoor someBadStart someBadPair someBadRule badDoor badStart badPair badRule
 range-passes L S R C = or-neither (or-neither (or-neither
     (none-below (S .doors) (badDoor S) (λ d l. or-neither (or-neither (lt-leb _ _ (R .task d l)) (lt-leb _ _ (R .arrive d l))) (lt-leb _ _ (R .depart d l))))
     (none-below (S .starts) (badStart S) (λ s l. lt-leb _ _ (R .start s l))))
@@ -71,17 +60,13 @@ range-passes L S R C = or-neither (or-neither (or-neither
     (none-below (S .rules) (badRule L S) (λ i l. or-neither (or-neither (lt-leb _ _ (R .ruleDoor i l)) (lt-leb _ _ (R .watched i l)))
     (ap not (between-is 1 (L .maxLeastCount) (S .leastCount i) (C i l .0) (C i l .1)))))
 
--- every task has a door
-abbrev pub Served : Sheet → Type 0
-Served S = (t : ℕ) → t < S .tasks → (d : ℕ) × (d < S .doors) × (S .task d ≡ t)
-
-pub served : (S : Sheet) → anyBelow (S .tasks) (lacksDoor S) ≡ false → Served S
-unfolding lacksDoor
+pub served : (S : Sheet) → someLacksDoor S ≡ false → Served S
+unfolding someLacksDoor lacksDoor
 served S h t l =
     let r = one-fails (S .doors) (λ d. not (eqb (S .task d) t)) (none-at (S .tasks) (lacksDoor S) h t l) in
     (r .0, r .1, eqb-true _ _ (not-false _ (r .2)))
 
-pub served-passes : (S : Sheet) → Served S → anyBelow (S .tasks) (lacksDoor S) ≡ false
-unfolding lacksDoor
+pub served-passes : (S : Sheet) → Served S → someLacksDoor S ≡ false
+unfolding someLacksDoor lacksDoor
 served-passes S D = none-below (S .tasks) (lacksDoor S) (λ t l. let d = D t l in
     all-false (S .doors) (λ d. not (eqb (S .task d) t)) (d .0) (d .1) (ap not (eq-eqb (S .task (d .0)) t (d .2))))

@@ -12,7 +12,8 @@ use borrow.Author.Tests.{ltb-true, ltb-false, lt-ltb, le-ltb}
 use Rattle.model.specs.Plans.{Plan}
 use Rattle.model.specs.Answer.{Answer, refused, accepted, refuseIf, status}
 use Rattle.model.specs.SheetLayout.{decode}
-use Rattle.model.specs.Planning.{cellsNeeded, orNoOrder, planFor, carriedOut, plan}
+use Rattle.model.specs.Planning.{cellsNeeded, fewCells, roomTests, orNoOrder, planFor, carriedOut, plan}
+use Rattle.model.specs.PlanLayout.{shortRoom}
 use Rattle.model.proofs.Reading.{Reads, reads-then}
 use Rattle.model.proofs.PlanBytes.{length-is}
 use Rattle.model.proofs.Planning.{has-plan}
@@ -43,7 +44,7 @@ by-0 false false e = (refl, refl)
 
 module _ (b cells buffer : List ℕ) (h : Reads b) where
   by-room : status (plan b cells buffer .answer) ≡ byRoom (ltb (length cells) (2 ^ decode b .tasks * decode b .points)) (ltb (length buffer) (32 + 2 * decode b .tasks))
-  unfolding plan planFor cellsNeeded byRoom
+  unfolding plan planFor roomTests fewCells shortRoom cellsNeeded byRoom
   by-room = carried (planFor b (length cells) (length buffer)) ∙ ap status (reads-then b _ h)
       ∙ ap₂ (λ (n : ℕ) (o : Option Plan). status (refuseIf (ltb (length cells) (2 ^ decode b .tasks * decode b .points)) 20 (refuseIf (ltb (length buffer) n) 21 (orNoOrder o))))
       (length-is (decode b .tasks)) (has-plan b h .1)

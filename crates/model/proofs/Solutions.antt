@@ -14,16 +14,16 @@ use Rattle.model.specs.Orders.{isOrder, keepsEveryPair, isAdmissible}
 use Rattle.model.specs.Plans.{inSheet, isSolution}
 use Rattle.model.proofs.Tests.{and-left, and-right, and-both}
 use Rattle.model.proofs.Masks.{size-full}
-use Rattle.model.proofs.Limits.{CountsWithin}
+use Rattle.model.specs.Passing.{CountsWithin}
 use Rattle.model.proofs.Counting.{order-length}
 
-pub record Solution (S : Sheet) (s : ℕ) (ds : List ℕ) : Type 0 where
+pub record SolutionTests (S : Sheet) (s : ℕ) (ds : List ℕ) : Type 0 where
   pub start : s < S .starts
   pub doors : inSheet S ds ≡ true
   pub order : isOrder (S .tasks) (full (S .tasks)) (map (S .task) ds) ≡ true
   pub pairs : keepsEveryPair S (map (S .task) ds) ≡ true
 
-pub solution : (S : Sheet) (s : ℕ) (ds : List ℕ) → isSolution S s ds ≡ true → Solution S s ds
+pub solution : (S : Sheet) (s : ℕ) (ds : List ℕ) → isSolution S s ds ≡ true → SolutionTests S s ds
 unfolding isSolution isAdmissible
 solution S s ds h =
     let f : (ltb s (S .starts) && inSheet S ds) ≡ true = and-left _ (isAdmissible S (map (S .task) ds)) h in
@@ -35,12 +35,12 @@ solution S s ds h =
       pairs = and-right (isOrder (S .tasks) (full (S .tasks)) (map (S .task) ds)) _ a;
     }
 
-pub is-solution : (S : Sheet) (s : ℕ) (ds : List ℕ) → Solution S s ds → isSolution S s ds ≡ true
+pub is-solution : (S : Sheet) (s : ℕ) (ds : List ℕ) → SolutionTests S s ds → isSolution S s ds ≡ true
 unfolding isSolution isAdmissible
 is-solution S s ds h = and-both (and-both (lt-ltb s (S .starts) (h .start)) (h .doors)) (and-both (h .order) (h .pairs))
 
 -- a solution has a door for each task
-pub solution-length : (S : Sheet) (s : ℕ) (ds : List ℕ) → Solution S s ds → length ds ≡ S .tasks
+pub solution-length : (S : Sheet) (s : ℕ) (ds : List ℕ) → SolutionTests S s ds → length ds ≡ S .tasks
 solution-length S s ds h = sym (length-map ds (S .task)) ∙ order-length (S .tasks) (full (S .tasks)) (map (S .task) ds) (h .order) ∙ size-full (S .tasks)
 
 element-lt : (n : ℕ) (ds : List ℕ) → allIn (λ d. ltb d n) ds ≡ true → (i : ℕ) → i < length ds → getD ds i 0 < n
@@ -49,7 +49,7 @@ element-lt n (d ∷ ds) h zero l = ltb-true d n (and-left (ltb d n) (allIn (λ d
 element-lt n (d ∷ ds) h (suc i) l = element-lt n ds (and-right (ltb d n) (allIn (λ d. ltb d n) ds) h) i (omega arith)
 
 -- the start and the doors of a solution fit 16 bits
-pub solution-fits : (S : Sheet) → CountsWithin S → (s : ℕ) (ds : List ℕ) → Solution S s ds → (s < 2 ^ 16) × ((i : ℕ) → i < S .tasks → getD ds i 0 < 2 ^ 16)
+pub solution-fits : (S : Sheet) → CountsWithin S → (s : ℕ) (ds : List ℕ) → SolutionTests S s ds → (s < 2 ^ 16) × ((i : ℕ) → i < S .tasks → getD ds i 0 < 2 ^ 16)
 unfolding inSheet
 solution-fits S W s ds x =
     let e : length ds ≡ S .tasks = solution-length S s ds x in

@@ -10,13 +10,14 @@ use Rattle.model.specs.TaskList.{full}
 use Rattle.model.specs.Sheet.{Sheet}
 use Rattle.model.specs.Cost.{cost}
 use Rattle.model.specs.Plans.{isSolution, roundCost, planCost, plans, solutions, cheapest, isCompletion, completions, costToGo, cheapestCompletion}
-use Rattle.model.proofs.Folds.{keep-flat, keep-map, keep-cong, flat-cong}
+use Rattle.model.proofs.Folds.{flat-cong, keep-flat, keep-cong, keep-map}
 use Rattle.model.proofs.Masks.{size-full}
 use Rattle.model.proofs.Lists.{all-flat}
-use Rattle.model.proofs.Choices.{first-some, first-map, first-flat, first-cong, costOf, least-is}
+use Rattle.model.proofs.Choices.{first-some, costOf, least-is, first-map, first-cong, first-flat}
 use Rattle.model.proofs.Scans.{Scanned, scan}
 use Rattle.model.proofs.Existence.{admissible-is}
-use Rattle.model.proofs.Driving.{Plannable, some-completion}
+use Rattle.model.proofs.Driving.{some-completion}
+use Rattle.model.specs.Passing.{Plannable}
 
 module _ (S : Sheet) (G : Plannable S) where
   -- a solution from a start of the sheet is a completion of the full list

@@ -1,14 +1,14 @@
 -- Tests that compute, and the facts that they stand for. Assumes nothing.
 use mathlib.Core.Path.{_≡_, refl, sym, ap, ap₂, _∙_}
-use mathlib.Core.Logic.{_≢_, _⊎_, inl, inr, ⊎-elim}
+use mathlib.Core.Logic.{_≢_, _⊎_, inl, inr, ⊎-elim, _↔_}
 use mathlib.Core.Bool.{Bool, true, false, not, _&&_, _||_, false≢true, true≢false}
 use mathlib.Core.List.{List, [], _∷_}
 use Prim.Native.Nat.{ℕ, zero, suc, _+_, _≤_, _<_}
 use native.Mathlib.Omega.{arith}
 use native.Mathlib.Numerals.{add-one}
 use lib.Dec.{eqb, ltb, leb}
-use borrow.Author.Tests.{eqb-true, eqb-false, eq-eqb, leb-true, leb-false, le-leb, lt-ltb, le-ltb}
-use Rattle.model.specs.Folds.{allBelow, anyBelow, allIn, sameList, isBetween}
+use borrow.Author.Tests.{eqb-true, eqb-false, eq-eqb, leb-true, lt-ltb, le-ltb, leb-false, le-leb}
+use Rattle.model.specs.Folds.{allBelow, anyBelow, isBetween, allIn, sameList}
 
 -- a test, with its outcome
 pub tested : (b : Bool) → (b ≡ true) ⊎ (b ≡ false)
@@ -47,6 +47,10 @@ or-right false b h = h
 
 pub or-neither : {a b : Bool} → a ≡ false → b ≡ false → (a || b) ≡ false
 or-neither p q = ap₂ _||_ p q
+
+pub or-true : (a b : Bool) → b ≡ true → (a || b) ≡ true
+or-true true b h = refl
+or-true false b h = h
 
 -- behind a test that fails another decides
 pub or-last : (a t r : Bool) → a ≡ false → r ≡ t → r ≡ (a || t)
@@ -160,6 +164,20 @@ any-true n test i l h = ⊎-elim
     (λ (w : anyBelow n test ≡ true). w)
     (λ (w : anyBelow n test ≡ false). absurd (not-both h (none-at n test w i l)))
     (tested (anyBelow n test))
+
+pub one-passes : (n : ℕ) (test : ℕ → Bool) → anyBelow n test ≡ true → (i : ℕ) × (i < n) × (test i ≡ true)
+one-passes zero test h = absurd (false≢true h)
+one-passes (suc n) test h = go (one-passes n test) (anyBelow n test) refl (test n) refl h
+  where
+    go : (anyBelow n test ≡ true → (i : ℕ) × (i < n) × (test i ≡ true)) → (a : Bool) → anyBelow n test ≡ a → (b : Bool) → test n ≡ b → (a || b) ≡ true
+        → (i : ℕ) × (i < suc n) × (test i ≡ true)
+    go ih true ea b eb h = let r = ih ea in (r .0, omega (arith, r .1), r .2)
+    go ih false ea true eb h = (n, omega arith, eb)
+    go ih false ea false eb h = absurd (false≢true h)
+
+-- a test that fails exactly where a fact holds passes exactly where it does not
+pub passes-unless : {R : Type 0} (t : Bool) → (t ≡ false) ↔ R → (t ≡ true) ↔ (R → ⊥)
+passes-unless t h = ((λ e r. not-both e (h .1 r)), (λ k. ⊎-elim (λ (w : t ≡ true). w) (λ (w : t ≡ false). absurd (k (h .0 w))) (tested t)))
 
 -- one turn more of a loop that looks for a number which passes, or for one which fails
 pub any-next : (i : ℕ) (test : ℕ → Bool) → anyBelow i test ≡ false → test i ≡ false → anyBelow (i + 1) test ≡ false

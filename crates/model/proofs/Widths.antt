@@ -10,10 +10,11 @@ use lib.Pow.{areBytes}
 use borrow.Author.Tests.{ltb-true, ltb-false}
 use Rattle.model.specs.Sheet.{Sheet}
 use Rattle.model.specs.Bytes.{signed}
-use Rattle.model.specs.SheetLayout.{tasksBody, doorsBody, startsBody, pairsBody, rulesBody, pointsBody, distancesBody, Layout, kind1, entries, fieldWidth, fieldAt, decodeBy, decode}
+use Rattle.model.specs.SheetLayout.{Layout, tasksBody, doorsBody, startsBody, pairsBody, rulesBody, pointsBody, distancesBody, kind1, fieldWidth, entries, fieldAt, decodeBy, layoutOf, decode}
 use Rattle.model.proofs.Tests.{tested}
 use Rattle.model.proofs.Numbers.{number-lt}
-use Rattle.model.proofs.Loads.{up, down}
+use Rattle.model.proofs.Loads.{up}
+use Rattle.model.specs.Passing.{down}
 
 -- in two's complement a number of k bytes is less than half of 256 to the k up
 pub signed-up : (k n : ℕ) → n < 256 ^ k → 2 * up (signed k n) < 256 ^ k
@@ -63,7 +64,7 @@ entries-lt b h i = number-lt 2 b _ h
 
 -- a sheet of kind 1 has fields of these widths
 pub widths : (b : List ℕ) → areBytes b ≡ true → Widths (decode b)
-unfolding decode decodeBy kind1 fieldWidth
+unfolding decode decodeBy layoutOf kind1 fieldWidth
 widths b h = record {
   endLoad = number-lt 2 b 2 h;
   change-up = λ j. omega (arith, signed-up 2 (fieldAt kind1 b tasksBody 0 j) (field-lt kind1 b h tasksBody 0 j));

@@ -3,7 +3,7 @@ use mathlib.Core.Bool.{Bool, false, _&&_}
 use mathlib.Core.List.{List, [], _∷_, _++_}
 use Prim.Native.Nat.{ℕ, _+_, _*_}
 use lib.Dec.{eqb}
-use lib.ListN.{length, take, set}
+use lib.ListN.{length, set, take}
 use Rattle.model.specs.Folds.{sameList}
 use Rattle.model.specs.Plans.{roundCost}
 use Rattle.model.specs.Bytes.{overwriteAt, writtenAt}
@@ -61,10 +61,10 @@ likeA e pairs pairBytes rules ruleBytes =
     ∷ 3 ∷ 0 ∷ 4 ∷ 0 ∷ 0 ∷ 0
     ∷ []))
 
-abbrev pairBytes : ℕ → ℕ → List ℕ
+abbrev pub pairBytes : ℕ → ℕ → List ℕ
 pairBytes sender receiver = sender ∷ 0 ∷ receiver ∷ 0 ∷ []
 
-abbrev ruleBytes : ℕ → ℕ → ℕ → ℕ → List ℕ
+abbrev pub ruleBytes : ℕ → ℕ → ℕ → ℕ → List ℕ
 ruleBytes door watched leastCount charge = door ∷ 0 ∷ watched ∷ 0 ∷ leastCount ∷ 0 ∷ charge ∷ 0 ∷ 0 ∷ 0 ∷ []
 
 -- A with the pair (1, 0)
@@ -114,10 +114,10 @@ sheetB =
 
 -- ---- what is lent: 14 cells and a buffer of 39 bytes, with noise in them
 
-abbrev cellNoise : List ℕ
+abbrev pub cellNoise : List ℕ
 cellNoise = 901 ∷ 902 ∷ 903 ∷ 904 ∷ 905 ∷ 906 ∷ 907 ∷ 908 ∷ 909 ∷ 910 ∷ 911 ∷ 912 ∷ 913 ∷ 914 ∷ []
 
-abbrev byteNoise : List ℕ
+abbrev pub byteNoise : List ℕ
 byteNoise =
     201 ∷ 202 ∷ 203 ∷ 204 ∷ 205 ∷ 206 ∷ 207 ∷ 208 ∷ 209 ∷ 210 ∷ 211 ∷ 212 ∷ 213
     ∷ 214 ∷ 215 ∷ 216 ∷ 217 ∷ 218 ∷ 219 ∷ 220 ∷ 221 ∷ 222 ∷ 223 ∷ 224 ∷ 225 ∷ 226
@@ -140,7 +140,7 @@ planB =
     ∷ 0 ∷ 0 ∷ 2 ∷ 0 ∷ 119 ∷ 17 ∷ 1 ∷ 0 ∷ 0 ∷ 0 ∷ 0 ∷ 0 ∷ []
 
 -- a plan like that of A, for two doors and a cost below 256
-abbrev planLikeA : ℕ → ℕ → ℕ → List ℕ
+abbrev pub planLikeA : ℕ → ℕ → ℕ → List ℕ
 planLikeA d₁ d₂ cost =
     2 ∷ 0 ∷ 0 ∷ 0 ∷ 1 ∷ 0 ∷ 22 ∷ 0 ∷ 1 ∷ 0 ∷ 2 ∷ 0
     ∷ 24 ∷ 0 ∷ 2 ∷ 0 ∷ 3 ∷ 0 ∷ 28 ∷ 0 ∷ 1 ∷ 0 ∷ 0 ∷ 0
@@ -155,23 +155,23 @@ linesA = ascii "cost 92\nstart 0\ndoor 0 task 0 open 3\ndoor 1 task 1 open 2\n"
 
 -- ---- comparing
 
-abbrev sameAnswer : Answer ℕ → Answer ℕ → Bool
+abbrev pub sameAnswer : Answer ℕ → Answer ℕ → Bool
 sameAnswer (refused m) (refused n) = eqb m n
 sameAnswer (refused m) (accepted n) = false
 sameAnswer (accepted m) (refused n) = false
 sameAnswer (accepted m) (accepted n) = eqb m n
 
 -- reading refuses with n; reading answers N and P
-abbrev readingRefuses : Answer Counts → ℕ → Bool
+abbrev pub readingRefuses : Answer Counts → ℕ → Bool
 readingRefuses (refused m) n = eqb m n
 readingRefuses (accepted c) n = false
 
-abbrev readingAnswers : Answer Counts → ℕ → ℕ → Bool
+abbrev pub readingAnswers : Answer Counts → ℕ → ℕ → Bool
 readingAnswers (refused m) N P = false
 readingAnswers (accepted c) N P = eqb (c .tasks) N && eqb (c .points) P
 
 -- reading a plan refuses with n; it answers a start, doors and a cost
-abbrev planRefuses : Answer PlanRead → ℕ → Bool
+abbrev pub planRefuses : Answer PlanRead → ℕ → Bool
 planRefuses (refused m) n = eqb m n
 planRefuses (accepted x) n = false
 

@@ -1,6 +1,6 @@
 -- The sheet's own faults, 10 to 17, and reading a sheet (01, Numbers a call can answer with, which every definition here is from). Assumes nothing.
 use mathlib.Core.Bool.{Bool, cond, not, _||_}
-use mathlib.Core.List.{List}
+use mathlib.Core.List.{List, [], _∷_}
 use Prim.Native.Nat.{ℕ, zero, suc, _^_}
 use lib.Dec.{eqb, ltb, leb}
 use lib.ListN.{length, getD}
@@ -10,8 +10,8 @@ use Rattle.model.specs.Folds.{allBelow, anyBelow, isBetween}
 use Rattle.model.specs.Sheet.{Sheet}
 use Rattle.model.specs.Orders.{noOrder}
 use Rattle.model.specs.Bytes.{numberAt}
-use Rattle.model.specs.Answer.{Answer, accepted, refuseIf}
-use Rattle.model.specs.SheetLayout.{Layout, pointsBody, bodies, lineAt, lineBody, lineOffset, entries, bodyAt, kind1, decode}
+use Rattle.model.specs.Answer.{Answer, accepted, Test, _when_, refuseFirst, placed}
+use Rattle.model.specs.SheetLayout.{Layout, pointsBody, bodies, lineAt, lineBody, lineOffset, entries, bodyAt, layoutOf, decode}
 
 -- ---- 10 to 13: of the bytes
 
@@ -27,6 +27,10 @@ wrongKind L b = not (eqb (numberAt 2 b 0) (L .kind))
 unfoldable pub wrongEntries : Layout → List ℕ → ℕ → Bool
 wrongEntries L b i = not (isBetween (getD (L .fewest (entries b pointsBody)) i 0) (getD (L .most (entries b pointsBody)) i 0) (entries b i))
 
+-- 12: that of some body is
+unfoldable pub someWrongEntries : Layout → List ℕ → Bool
+someWrongEntries L b = anyBelow bodies (wrongEntries L b)
+
 -- 13: contents line i has a wrong body number or offset
 unfoldable pub wrongLine : Layout → List ℕ → ℕ → Bool
 wrongLine L b i = not (eqb (lineBody b i) (suc i)) || not (eqb (lineOffset b i) (bodyAt L b i))
@@ -34,6 +38,10 @@ wrongLine L b i = not (eqb (lineBody b i) (suc i)) || not (eqb (lineOffset b i) 
 -- 13: the sheet's length is not the end of its last body
 unfoldable pub wrongLength : Layout → List ℕ → Bool
 wrongLength L b = not (eqb (length b) (bodyAt L b bodies))
+
+-- 13: a body number or offset is wrong, or the length
+unfoldable pub wrongPlaces : Layout → List ℕ → Bool
+wrongPlaces L b = anyBelow bodies (wrongLine L b) || wrongLength L b
 
 -- ---- 14 to 17: of what the sheet says
 
@@ -53,13 +61,30 @@ badPair S i = leb (S .tasks) (S .sender i) || leb (S .tasks) (S .receiver i)
 unfoldable pub badRule : Layout → Sheet → ℕ → Bool
 badRule L S i = leb (S .doors) (S .ruleDoor i) || leb (2 ^ S .tasks) (S .watched i) || not (isBetween 1 (L .maxLeastCount) (S .leastCount i))
 
+-- 14, of some door, start, pair or access rule
+unfoldable pub someBadDoor : Sheet → Bool
+someBadDoor S = anyBelow (S .doors) (badDoor S)
+
+unfoldable pub someBadStart : Sheet → Bool
+someBadStart S = anyBelow (S .starts) (badStart S)
+
+unfoldable pub someBadPair : Sheet → Bool
+someBadPair S = anyBelow (S .pairs) (badPair S)
+
+unfoldable pub someBadRule : Layout → Sheet → Bool
+someBadRule L S = anyBelow (S .rules) (badRule L S)
+
 -- 14: a task, point, door or least count is out of range, or a watched bit at N or above
 unfoldable pub outOfRange : Layout → Sheet → Bool
-outOfRange L S = anyBelow (S .doors) (badDoor S) || anyBelow (S .starts) (badStart S) || anyBelow (S .pairs) (badPair S) || anyBelow (S .rules) (badRule L S)
+outOfRange L S = someBadDoor S || someBadStart S || someBadPair S || someBadRule L S
 
 -- 15: task t has no door
 unfoldable pub lacksDoor : Sheet → ℕ → Bool
 lacksDoor S t = allBelow (S .doors) (λ d. not (eqb (S .task d) t))
+
+-- 15: some task has none
+unfoldable pub someLacksDoor : Sheet → Bool
+someLacksDoor S = anyBelow (S .tasks) (lacksDoor S)
 
 -- the end load plus all negative changes; here of the tasks below n
 abbrev pub lightestBelow : Sheet → ℕ → ℤ
@@ -72,18 +97,22 @@ tooLight S = ltZ (lightestBelow S (S .tasks)) (pos 0)
 
 -- ---- the answer: the first fault that applies
 
+-- the sheet's own numbers, in the order in which they are tested
+unfoldable pub sheetTests : List ℕ → List Test
+sheetTests b =
+    (10 when tooShort b)
+    ∷ (11 when wrongKind (layoutOf b) b)
+    ∷ (12 when someWrongEntries (layoutOf b) b)
+    ∷ (13 when wrongPlaces (layoutOf b) b)
+    ∷ (14 when outOfRange (layoutOf b) (decode b))
+    ∷ (15 when someLacksDoor (decode b))
+    ∷ (16 when tooLight (decode b))
+    ∷ (17 when noOrder (decode b))
+    ∷ []
+
 -- the answer a, unless the sheet has a fault; planning and judging read first
 unfoldable pub unlessFault : {A : Type 0} → List ℕ → Answer A → Answer A
-unlessFault b a =
-    refuseIf (tooShort b) 10
-    (refuseIf (wrongKind kind1 b) 11
-    (refuseIf (anyBelow bodies (wrongEntries kind1 b)) 12
-    (refuseIf (anyBelow bodies (wrongLine kind1 b) || wrongLength kind1 b) 13
-    (refuseIf (outOfRange kind1 (decode b)) 14
-    (refuseIf (anyBelow (decode b .tasks) (lacksDoor (decode b))) 15
-    (refuseIf (tooLight (decode b)) 16
-    (refuseIf (noOrder (decode b)) 17
-    a)))))))
+unlessFault b a = refuseFirst (sheetTests b) a
 
 -- a sheet that reads returns N and P
 pub record Counts : Type 0 where
@@ -93,3 +122,10 @@ pub record Counts : Type 0 where
 -- reading a sheet
 unfoldable pub readSheet : List ℕ → Answer Counts
 readSheet b = unlessFault b (accepted (record { tasks = decode b .tasks; points = decode b .points }))
+
+-- what reading leaves where N and P are asked for, through the C interface
+abbrev pub tasksLeft : List ℕ → ℕ → ℕ
+tasksLeft b before = placed (λ (c : Counts). c .tasks) (readSheet b) before
+
+abbrev pub pointsLeft : List ℕ → ℕ → ℕ
+pointsLeft b before = placed (λ (c : Counts). c .points) (readSheet b) before

@@ -4,6 +4,7 @@ pub mod Sheet
 pub mod Orders
 pub mod Cost
 pub mod Plans
+pub mod Meanings
 pub mod Bytes
 pub mod Answer
 pub mod SheetLayout
@@ -13,4 +14,9 @@ pub mod PlanInHand
 pub mod Validating
 pub mod Planning
 pub mod Printing
+pub mod Passing
+pub mod Demands
+pub mod Figures
 pub mod Examples
+pub mod Neighbours
+pub mod Method

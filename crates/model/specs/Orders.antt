@@ -1,10 +1,10 @@
 -- Orders of a list of tasks, and the pairs that they keep (01, Cost of a round; 000, (2.7), (4.1) and (4.2)). Assumes nothing.
-use mathlib.Core.Bool.{Bool, cond, not, _&&_, _||_}
+use mathlib.Core.Bool.{Bool, not, _&&_, _||_}
 use mathlib.Core.List.{List}
-use Prim.Native.Nat.{ℕ, zero, suc}
+use Prim.Native.Nat.{ℕ}
 use lib.Dec.{eqb, ltb}
-use Rattle.model.specs.Folds.{allBelow, allIn, keepIf, isEmpty, countOf, indexOf, listsBelow}
-use Rattle.model.specs.TaskList.{bit, member, without, full, size}
+use Rattle.model.specs.Folds.{allBelow, listsBelow, allIn, keepIf, isEmpty, countOf, indexOf}
+use Rattle.model.specs.TaskList.{bit, member, full, size}
 use Rattle.model.specs.Sheet.{Sheet}
 
 -- an order of K, a list of some of n tasks: each task of K once, and nothing else (01, Cost of a round)
@@ -54,21 +54,3 @@ essential S K = not (eqb K 0) && allBelow (S .pairs) (λ i. not (member K (S .se
 -- the lists that the pairs allow, of K below 2 ^ N: the essential ones and the empty one (01, Cost of a round)
 unfoldable pub pairsAllow : Sheet → ℕ → Bool
 pairsAllow S K = eqb K 0 || essential S K
-
--- task t is receiver in no pair within K (000, (4.1))
-unfoldable pub isFree : Sheet → ℕ → ℕ → Bool
-isFree S K t = allBelow (S .pairs) (λ i. not (pairWithin S K i && eqb t (S .receiver i)))
-
--- task t can come first in K: it is in K, and receiver in no pair within K (000, the list I(K) of (4.1))
-unfoldable pub canComeFirst : Sheet → ℕ → ℕ → Bool
-canComeFirst S K t = member K t && isFree S K t
-
--- what is left of K after each of the tasks 0, 1, .. below n in turn was struck off if it could come first in what was left (000, (4.1), again and again)
-abbrev pub strikeBelow : Sheet → ℕ → ℕ → ℕ
-strikeBelow S zero K = K
-strikeBelow S (suc n) K = cond (canComeFirst S (strikeBelow S n K) n) (without (strikeBelow S n K) n) (strikeBelow S n K)
-
--- and after k such passes over all tasks (000, (4.1), again and again)
-abbrev pub strikeOff : Sheet → ℕ → ℕ → ℕ
-strikeOff S zero K = K
-strikeOff S (suc k) K = strikeBelow S (S .tasks) (strikeOff S k K)

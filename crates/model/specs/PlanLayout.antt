@@ -1,12 +1,12 @@
 -- The layout of a plan: writing one and reading one (01, Layout of a plan, which every definition here is from). Assumes nothing.
 use mathlib.Core.Bool.{Bool, cond, not, _||_}
-use mathlib.Core.List.{List, _++_}
+use mathlib.Core.List.{List, [], _∷_, _++_}
 use Prim.Native.Nat.{ℕ, _+_, _*_}
 use lib.Dec.{eqb, ltb}
 use lib.ListN.{length, getD, take}
-use Rattle.model.specs.Folds.{flatMapBelow, mapBelow, sameList, isBetween}
+use Rattle.model.specs.Folds.{isBetween, flatMapBelow, mapBelow, sameList}
 use Rattle.model.specs.Bytes.{numberAt, bytesOf, overwrite}
-use Rattle.model.specs.Answer.{Answer, refused, accepted, refuseIf}
+use Rattle.model.specs.Answer.{Answer, refused, accepted, Test, _when_, refuseFirst, placed}
 use Rattle.model.specs.SheetLayout.{lineAt}
 
 -- a plan has room for this many doors
@@ -45,9 +45,13 @@ lineBytes number offset count = bytesOf 2 number ++ bytesOf 2 offset ++ bytesOf 
 unfoldable pub planHead : ℕ → List ℕ
 planHead n = bytesOf 2 planKind ++ bytesOf 2 0 ++ lineBytes 1 planStartAt 1 ++ lineBytes 2 planDoorsAt n ++ lineBytes 3 (planCostAt n) 1
 
--- a plan's bytes: the first n of the doors
+-- the bytes of the first n of the doors
+unfoldable pub doorBytes : ℕ → List ℕ → List ℕ
+doorBytes n doors = flatMapBelow n (λ i. bytesOf 2 (getD doors i 0))
+
+-- a plan's bytes
 unfoldable pub planBytes : ℕ → ℕ → List ℕ → ℕ → List ℕ
-planBytes n start doors cost = planHead n ++ bytesOf 2 start ++ flatMapBelow n (λ i. bytesOf 2 (getD doors i 0)) ++ bytesOf 8 cost
+planBytes n start doors cost = planHead n ++ bytesOf 2 start ++ doorBytes n doors ++ bytesOf 8 cost
 
 -- 12: the number of tasks is outside the room of a plan, or above the number of doors lent. Document 01 lends an array of twelve, which the second never refuses;
 -- the C interface lends any number
@@ -59,9 +63,17 @@ pub record PlanWritten : Type 0 where
   pub answer : Answer ℕ
   pub bytes : List ℕ
 
--- 12, then 21 for a buffer that is too short, else the length
+-- 21: the room is shorter than a plan of n doors
+unfoldable pub shortRoom : ℕ → ℕ → Bool
+shortRoom n room = ltb room (planLength n)
+
+-- the numbers of writing, in the order in which they are tested
+unfoldable pub writeTests : ℕ → ℕ → ℕ → List Test
+writeTests n lent room = (12 when wrongTasks n lent) ∷ (21 when shortRoom n room) ∷ []
+
+-- one of them, else the length
 unfoldable pub writeAnswer : ℕ → ℕ → ℕ → Answer ℕ
-writeAnswer n lent room = refuseIf (wrongTasks n lent) 12 (refuseIf (ltb room (planLength n)) 21 (accepted (planLength n)))
+writeAnswer n lent room = refuseFirst (writeTests n lent room) (accepted (planLength n))
 
 -- a refusal leaves the buffer as it was
 unfoldable pub bytesWritten : Answer ℕ → List ℕ → List ℕ → List ℕ
@@ -77,9 +89,13 @@ writePlan n start doors cost buffer = record {
 
 -- ---- reading
 
--- 30: the length or a byte before the start is not as laid out for n doors
+-- 30: a byte before the start is not as laid out for n doors
+unfoldable pub wrongHead : ℕ → List ℕ → Bool
+wrongHead n q = not (sameList (take planStartAt q) (planHead n))
+
+-- 30: the length is not, or such a byte
 unfoldable pub illFormed : ℕ → List ℕ → Bool
-illFormed n q = not (eqb (length q) (planLength n)) || not (sameList (take planStartAt q) (planHead n))
+illFormed n q = not (eqb (length q) (planLength n)) || wrongHead n q
 
 -- the start that the bytes hold
 unfoldable pub startIn : List ℕ → ℕ
@@ -107,9 +123,20 @@ pub record PlanRead : Type 0 where
   pub doors : List ℕ
   pub cost : ℕ
 
+-- the numbers of reading, in the order in which they are tested
+unfoldable pub readTests : ℕ → ℕ → List ℕ → List Test
+readTests n lent q = (12 when wrongTasks n lent) ∷ (30 when illFormed n q) ∷ []
+
 -- reading takes n, the number of doors lent, and the bytes
 unfoldable pub readPlan : ℕ → ℕ → List ℕ → Answer PlanRead
-readPlan n lent q =
-    refuseIf (wrongTasks n lent) 12
-    (refuseIf (illFormed n q) 30
-    (accepted (record { start = startIn q; doors = doorArray lent n (doorIn q); cost = costIn n q })))
+readPlan n lent q = refuseFirst (readTests n lent q) (accepted (record { start = startIn q; doors = doorArray lent n (doorIn q); cost = costIn n q }))
+
+-- what reading leaves where start, doors and cost are asked for
+abbrev pub startLeft : ℕ → ℕ → List ℕ → ℕ → ℕ
+startLeft n lent q before = placed (λ (x : PlanRead). x .start) (readPlan n lent q) before
+
+abbrev pub doorsLeft : ℕ → List ℕ → List ℕ → List ℕ
+doorsLeft n q before = placed (λ (x : PlanRead). x .doors) (readPlan n (length before) q) before
+
+abbrev pub costLeft : ℕ → ℕ → List ℕ → ℕ → ℕ
+costLeft n lent q before = placed (λ (x : PlanRead). x .cost) (readPlan n lent q) before

@@ -1,6 +1,6 @@
 -- Planning: the answer, every cell and every byte afterwards (01, Working and Numbers a call can answer with). Assumes nothing.
-use mathlib.Core.Bool.{cond, _&&_}
-use mathlib.Core.List.{List}
+use mathlib.Core.Bool.{Bool, cond, _&&_}
+use mathlib.Core.List.{List, [], _∷_}
 use mathlib.Core.Option.{Option, none, some}
 use Prim.Native.Nat.{ℕ, _*_, _/_, _%_, _^_}
 use lib.Dec.{ltb}
@@ -10,27 +10,31 @@ use Rattle.model.specs.Sheet.{Sheet}
 use Rattle.model.specs.Orders.{pairsAllow}
 use Rattle.model.specs.Plans.{Plan, planCost, cheapest, costToGo}
 use Rattle.model.specs.Bytes.{overwrite}
-use Rattle.model.specs.Answer.{Answer, refused, accepted, refuseIf}
+use Rattle.model.specs.Answer.{Answer, refused, accepted, Test, _when_, refuseFirst}
 use Rattle.model.specs.SheetLayout.{decode}
 use Rattle.model.specs.Faults.{unlessFault}
-use Rattle.model.specs.PlanLayout.{planLength, planBytes}
+use Rattle.model.specs.PlanLayout.{planBytes, shortRoom}
 
 -- 2 ^ N times P cells are needed (01, Working)
 unfoldable pub cellsNeeded : Sheet → ℕ
 cellsNeeded S = 2 ^ S .tasks * S .points
+
+-- 20: there are fewer cells than needed (01, Numbers a call can answer with)
+unfoldable pub fewCells : Sheet → ℕ → Bool
+fewCells S cells = ltb cells (cellsNeeded S)
+
+-- the numbers of room for so many cells and so many bytes, in the order in which they are tested (01, Numbers a call can answer with)
+unfoldable pub roomTests : Sheet → ℕ → ℕ → List Test
+roomTests S cells room = (20 when fewCells S cells) ∷ (21 when shortRoom (S .tasks) room) ∷ []
 
 -- the plan, if there is one, else 17 (01, number 17). Where 17 does not apply there is (`has-plan`), so this refusal is never met
 abbrev pub orNoOrder : Option Plan → Answer Plan
 orNoOrder none = refused 17
 orNoOrder (some x) = accepted x
 
--- the plan for the sheet b, with room for so many cells and so many bytes: the sheet's own numbers, 20, 21, else the cheapest (01, Numbers a call can answer with)
+-- the plan for the sheet b, with room for so many cells and so many bytes: the sheet's own numbers, those of room, else the cheapest (01, Numbers a call can answer with)
 unfoldable pub planFor : List ℕ → ℕ → ℕ → Answer Plan
-planFor b cells room =
-    unlessFault b
-    (refuseIf (ltb cells (cellsNeeded (decode b))) 20
-    (refuseIf (ltb room (planLength (decode b .tasks))) 21
-    (orNoOrder (cheapest (decode b)))))
+planFor b cells room = unlessFault b (refuseFirst (roomTests (decode b) cells room) (orNoOrder (cheapest (decode b))))
 
 -- cell i, which held x, afterwards. Cell K times P plus p holds the cost to go from p, if K is a list that the pairs allow (01, Working)
 unfoldable pub cellAfter : Sheet → ℕ → ℕ → ℕ

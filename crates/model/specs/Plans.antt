@@ -5,10 +5,10 @@ use mathlib.Core.List.{List, map}
 use mathlib.Core.Option.{Option}
 use Prim.Native.Nat.{ℕ}
 use lib.Dec.{ltb}
-use Rattle.model.specs.Folds.{flatMapBelow, passingBelow, listsBelow, allIn, keepIf, firstLeast, least}
+use Rattle.model.specs.Folds.{flatMapBelow, listsBelow, allIn, keepIf, firstLeast, least}
 use Rattle.model.specs.TaskList.{size}
 use Rattle.model.specs.Sheet.{Sheet}
-use Rattle.model.specs.Orders.{isAdmissible, isOrderWithin, canComeFirst}
+use Rattle.model.specs.Orders.{isAdmissible, isOrderWithin}
 use Rattle.model.specs.Cost.{cost}
 
 -- ---- the whole round
@@ -52,10 +52,6 @@ cheapest S = firstLeast (planCost S) (solutions S)
 -- a completion of K: doors of the sheet whose tasks, as driven, are an order of K that keeps the pairs within K (01, Cost of a round)
 unfoldable pub isCompletion : Sheet → ℕ → List ℕ → Bool
 isCompletion S K ds = inSheet S ds && isOrderWithin S K (map (S .task) ds)
-
--- the doors whose task can come first in K, by number (000, (4.1))
-unfoldable pub firstDoors : Sheet → ℕ → List ℕ
-firstDoors S K = passingBelow (S .doors) (λ d. canComeFirst S K (S .task d))
 
 -- all completions of K, ranked by door d1, d2 and on (01, Cost of a round and Working)
 unfoldable pub completions : Sheet → ℕ → List (List ℕ)

@@ -12,7 +12,7 @@ use Rattle.model.specs.Sheet.{Sheet}
 use Rattle.model.specs.Plans.{Plan, planCost}
 use Rattle.model.specs.Bytes.{overwriteAt, writtenAt}
 use Rattle.model.specs.Answer.{Answer, refused, accepted}
-use Rattle.model.specs.SheetLayout.{maxPoints, kind1, sheetLength, decode}
+use Rattle.model.specs.SheetLayout.{decode}
 use Rattle.model.specs.PlanLayout.{maxPlanDoors, planLength}
 use Rattle.model.specs.Planning.{planFor, plan}
 
@@ -82,9 +82,9 @@ print b cells buffer = record {
 
 -- ---- the program
 
--- it reads at most one byte more than the longest sheet has
-unfoldable pub printInput : ℕ
-printInput = suc (sheetLength kind1 (kind1 .most maxPoints))
+-- it reads at most one byte more than the longest sheet has: no longer input is printed otherwise (`cut-input`)
+abbrev pub printInput : ℕ
+printInput = 9639
 
 -- it plans with this many cells
 abbrev pub printCells : ℕ

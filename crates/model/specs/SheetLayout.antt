@@ -173,6 +173,10 @@ decodeBy L b = record {
   distance = λ p q. fieldAt L b distancesBody 0 (p * entries b pointsBody + q);
 }
 
--- and by the one layout that there is
+-- the layout of a sheet, by its kind: there is one. Nothing else here knows the kind
+unfoldable pub layoutOf : List ℕ → Layout
+layoutOf b = kind1
+
+-- the sheet that the bytes stand for
 unfoldable pub decode : List ℕ → Sheet
-decode b = decodeBy kind1 b
+decode b = decodeBy (layoutOf b) b

@@ -5,11 +5,11 @@ use mathlib.Core.List.{List}
 use Prim.Native.Nat.{ℕ, _-_, _≤_, _<_}
 use native.Mathlib.Omega.{arith}
 use lib.ListN.{length, getD, take}
-use lib.Seq.{length-take-le, getD-take}
+use lib.Seq.{getD-take, length-take-le}
 use borrow.Author.Tests.{lt-ltb, le-ltb}
 use Rattle.model.specs.Answer.{refused, accepted}
 use Rattle.model.specs.Bytes.{bytesOf, overwrite, overwriteAt}
-use Rattle.model.specs.PlanLayout.{planStartAt, planDoorsAt, planCostAt, planLength, planHead, planBytes, wrongTasks, writeAnswer, bytesWritten, writePlan}
+use Rattle.model.specs.PlanLayout.{planStartAt, planDoorsAt, planCostAt, planLength, planHead, doorBytes, planBytes, wrongTasks, shortRoom, writeTests, writeAnswer, bytesWritten, writePlan}
 use Rattle.model.proofs.Folds.{flat-cong}
 use Rattle.model.proofs.Numbers.{length-bytesOf, row, length-row}
 use Rattle.model.proofs.Overwriting.{over-front, over-behind}
@@ -24,10 +24,10 @@ module _ (n start : ℕ) (doors : List ℕ) (cost : ℕ) (b : List ℕ) where
   pub parts-written : (m : ℕ) (b₁ b₂ b₃ b₄ : List ℕ) → n ≤ length doors → m ≡ planLength n → m ≤ length b
       → b₁ ≡ overwriteAt 0 (planHead n) b
       → b₂ ≡ overwriteAt planStartAt (bytesOf 2 start) b₁
-      → b₃ ≡ overwriteAt planDoorsAt (row 2 (length (take n doors)) (λ i. getD (take n doors) i 0)) b₂
+      → b₃ ≡ overwriteAt planDoorsAt (doorBytes (length (take n doors)) (take n doors)) b₂
       → b₄ ≡ overwriteAt (m - 8) (bytesOf 8 cost) b₃
       → b₄ ≡ overwrite (planBytes n start doors cost) b
-  unfolding planBytes planLength planCostAt planDoorsAt
+  unfolding planBytes doorBytes planLength planCostAt planDoorsAt
   parts-written m b₁ b₂ b₃ b₄ k e l e₁ e₂ e₃ e₄ =
       let place : m - 8 ≡ planCostAt n = omega arith in
       rw (e₄, e₃, e₂, e₁, place, front-row n doors k)
@@ -38,15 +38,15 @@ module _ (n start : ℕ) (doors : List ℕ) (cost : ℕ) (b : List ℕ) where
       ) (over-front (planBytes n start doors cost) b (rw length-plan (omega arith))))
 
   pub wrong-number : wrongTasks n (length doors) ≡ true → (refused 12 ≡ writePlan n start doors cost b .answer) × (b ≡ writePlan n start doors cost b .bytes)
-  unfolding writePlan writeAnswer bytesWritten
+  unfolding writePlan writeAnswer writeTests shortRoom bytesWritten
   wrong-number t = rw t (refl, refl)
 
   module _ (m : ℕ) (t : wrongTasks n (length doors) ≡ false) (e : m ≡ planLength n) where
     pub no-room : length b < m → (refused 21 ≡ writePlan n start doors cost b .answer) × (b ≡ writePlan n start doors cost b .bytes)
-    unfolding writePlan writeAnswer bytesWritten
+    unfolding writePlan writeAnswer writeTests shortRoom bytesWritten
     no-room l = rw (t, lt-ltb (length b) (planLength n) (omega arith)) (refl, refl)
 
     pub plan-written : (d : List ℕ) → m ≤ length b → d ≡ overwrite (planBytes n start doors cost) b
         → (accepted m ≡ writePlan n start doors cost b .answer) × (d ≡ writePlan n start doors cost b .bytes)
-    unfolding writePlan writeAnswer bytesWritten
+    unfolding writePlan writeAnswer writeTests shortRoom bytesWritten
     plan-written d l w = rw (t, le-ltb (length b) (planLength n) (omega arith)) (ap accepted e, w)

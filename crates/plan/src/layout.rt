@@ -1,10 +1,8 @@
 // The layout of a plan: head, start, doors and cost.
 ghost use mathlib.Core.Path.{_≡_};
-ghost use mathlib.Core.Bool.{not};
-ghost use lib.ListN.{length, getD, take};
-ghost use Rattle.model.specs.Folds.{sameList, flatMapBelow};
-ghost use Rattle.model.specs.Bytes.{bytesOf, overwriteAt};
-ghost use Rattle.model.specs.PlanLayout.{planStartAt, planDoorsAt, planLength, planHead, wrongTasks, doorIn, costIn, doorArray};
+ghost use lib.ListN.{length};
+ghost use Rattle.model.specs.Bytes.{overwriteAt};
+ghost use Rattle.model.specs.PlanLayout.{planDoorsAt, planLength, planHead, doorBytes, wrongTasks, wrongHead, doorIn, costIn, doorArray};
 ghost use Rattle.plan.specs.Heads.{headNumbers};
 use crate::MAX_DOORS;
 use number::read_u16;
@@ -62,7 +60,7 @@ pub(crate) fn write_head(b: &mut [u8], n: u16)
 
 // Whether the bytes do not begin with the head of a plan of n doors.
 pub(crate) fn wrong_head(n: u16, q: &[u8]) -> bool
-    ensures { λ r. ⌜ r ≡ not (sameList (take planStartAt (now (q .entry))) (planHead n)) ⌝ }
+    ensures { λ r. ⌜ r ≡ wrongHead n (now (q .entry)) ⌝ }
 {
     if q.len() < START_AT {
         return true;
@@ -80,7 +78,7 @@ pub(crate) fn wrong_head(n: u16, q: &[u8]) -> bool
 
 // Writes the doors to their place, if they fit.
 pub(crate) fn write_doors(b: &mut [u8], doors: &[u16])
-    ensures { λ _. ⌜ now (b .exit) ≡ overwriteAt planDoorsAt (flatMapBelow (length (now (doors .entry))) (λ i. bytesOf 2 (getD (now (doors .entry)) i 0))) (now (b .entry)) ⌝ }
+    ensures { λ _. ⌜ now (b .exit) ≡ overwriteAt planDoorsAt (doorBytes (length (now (doors .entry))) (now (doors .entry))) (now (b .entry)) ⌝ }
 {
     let n = doors.len();
     let room = b.len();

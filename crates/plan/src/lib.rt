@@ -1,8 +1,8 @@
 // Plans: the plan in hand, and plans written as bytes and read from them.
 ghost use mathlib.Core.Path.{_≡_};
 ghost use lib.ListN.{length};
-ghost use Rattle.model.specs.Answer.{status, placed};
-ghost use Rattle.model.specs.PlanLayout.{writePlan, illFormed, startIn, PlanRead, readPlan};
+ghost use Rattle.model.specs.Answer.{status};
+ghost use Rattle.model.specs.PlanLayout.{writePlan, illFormed, startIn, readPlan, startLeft, doorsLeft, costLeft};
 ghost use Rattle.model.specs.PlanInHand.{noDoors, withDoor, inHand};
 ghost use Rattle.plan.specs.Answers.{answerOf, statusOf, handOf};
 use number::read_u16;
@@ -87,9 +87,9 @@ pub fn write(n: usize, start: u16, doors: &[u16], cost: u64, buf: &mut [u8]) -> 
 // Reads a plan of n doors. Of the doors lent, those from n on are set to 0.
 pub fn read(n: usize, q: &[u8], start: &mut u16, doors: &mut [u16], cost: &mut u64) -> Reading
     ensures answer { λ r. ⌜ statusOf r ≡ status (readPlan n (length (now (doors .entry))) (now (q .entry))) ⌝ }
-    ensures start { λ r. ⌜ now (start .exit) ≡ placed (λ (x : PlanRead). x .start) (readPlan n (length (now (doors .entry))) (now (q .entry))) (now (start .entry)) ⌝ }
-    ensures doors { λ r. ⌜ now (doors .exit) ≡ placed (λ (x : PlanRead). x .doors) (readPlan n (length (now (doors .entry))) (now (q .entry))) (now (doors .entry)) ⌝ }
-    ensures cost { λ r. ⌜ now (cost .exit) ≡ placed (λ (x : PlanRead). x .cost) (readPlan n (length (now (doors .entry))) (now (q .entry))) (now (cost .entry)) ⌝ }
+    ensures start { λ r. ⌜ now (start .exit) ≡ startLeft n (length (now (doors .entry))) (now (q .entry)) (now (start .entry)) ⌝ }
+    ensures doors { λ r. ⌜ now (doors .exit) ≡ doorsLeft n (now (q .entry)) (now (doors .entry)) ⌝ }
+    ensures cost { λ r. ⌜ now (cost .exit) ≡ costLeft n (length (now (doors .entry))) (now (q .entry)) (now (cost .entry)) ⌝ }
 {
     if layout::wrong_tasks(n, doors.len()) {
         return Reading::Refused(Refusal::WrongEntries);

@@ -8,27 +8,27 @@ use lib.ListN.{length, getD}
 use borrow.Author.Tests.{le-ltb}
 use Rattle.model.specs.Folds.{passingBelow, firstLeast}
 use Rattle.model.specs.TaskList.{full}
-use Rattle.model.specs.Plans.{Plan, planCost, cheapest, costToGo, cheapestCompletion, completions}
+use Rattle.model.specs.Plans.{Plan, planCost, cheapest, completions, costToGo, cheapestCompletion}
 use Rattle.model.specs.Cost.{cost}
 use Rattle.model.specs.Bytes.{overwrite}
 use Rattle.model.specs.Answer.{accepted}
 use Rattle.model.specs.SheetLayout.{decode}
-use Rattle.model.specs.PlanLayout.{maxPlanDoors, planLength, planBytes, writePlan}
+use Rattle.model.specs.PlanLayout.{maxPlanDoors, planLength, planBytes, shortRoom, writePlan}
 use Rattle.model.specs.PlanInHand.{PlanInHand}
-use Rattle.model.specs.Planning.{cellsNeeded, cellsAfter, Planned, planFor, plan}
+use Rattle.model.specs.Planning.{cellsNeeded, fewCells, roomTests, planFor, cellsAfter, Planned, plan}
 use Rattle.model.proofs.Masks.{full-lt}
 use Rattle.model.proofs.Lists.{all-flat}
 use Rattle.model.proofs.Choices.{first-some, first-cong}
 use Rattle.model.proofs.Scans.{FirstOf, scan}
-use Rattle.model.proofs.Reading.{Reads, counts-read, reads-then}
+use Rattle.model.proofs.Reading.{Reads, reads-then, counts-read}
 use Rattle.model.proofs.Cheapest.{cheapest-solution}
 use Rattle.model.proofs.Solutions.{solution, solution-length}
-use Rattle.model.proofs.PlanBytes.{tasks-fit, array-at, plan-cong, written-over}
+use Rattle.model.proofs.PlanBytes.{tasks-fit, plan-cong, array-at, written-over}
 use Rattle.model.proofs.InHand.{Holds, with-doors}
 use Rattle.model.proofs.Driving.{some-completion}
 use Rattle.model.proofs.Starts.{cheapest-from}
 use Rattle.model.proofs.OpenAlong.{full-allowed}
-use Rattle.model.proofs.Planning.{plannable, planned}
+use Rattle.model.proofs.Planning.{planned, plannable}
 use Rattle.table.proofs.Filling.{shown-after}
 use Rattle.complete.specs.Completed.{bestDoors, completed}
 use Rattle.planner.specs.Choosing.{startAt, startCost, firstStart}
@@ -83,7 +83,7 @@ module _ (b : List ℕ) (h : Reads b) (cells buffer : List ℕ) (room : cellsNee
       cells = cellsAfter (decode b) cells;
       bytes = overwrite (planBytes (decode b .tasks) s route (planCost (decode b) best)) buffer;
     }
-    unfolding planFor best
+    unfolding planFor roomTests fewCells shortRoom best
     carried = planned b cells buffer best (reads-then b _ h ∙ rw (le-ltb (length cells) (cellsNeeded (decode b)) room, le-ltb (length buffer) (planLength (decode b .tasks)) wide, is-cheapest .0))
 
     -- x is the plan in hand

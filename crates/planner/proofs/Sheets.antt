@@ -8,19 +8,21 @@ use lib.Dec.{lit<}
 use lib.ListN.{length}
 use lib.Pow.{pow-pos}
 use borrow.Author.Tests.{lt-ltb, le-ltb}
-use Rattle.model.specs.TaskList.{maxListed, full, fullOf}
+use Rattle.model.specs.TaskList.{full}
+use Rattle.model.specs.Method.{maxListed, fullOf}
 use Rattle.model.specs.Answer.{refused}
-use Rattle.model.specs.SheetLayout.{distancesBody, kind1, decodeBy, decode}
+use Rattle.model.specs.SheetLayout.{distancesBody, kind1, decodeBy, layoutOf, decode}
 use Rattle.model.specs.Faults.{readSheet}
-use Rattle.model.specs.PlanLayout.{planLength}
-use Rattle.model.specs.Planning.{cellsNeeded, cellsAfter, planFor, plan}
+use Rattle.model.specs.PlanLayout.{planLength, shortRoom}
+use Rattle.model.specs.Planning.{cellsNeeded, fewCells, roomTests, planFor, cellsAfter, plan}
 use Rattle.model.proofs.Masks.{full-lt, full-of}
-use Rattle.model.proofs.Limits.{entries-within, tasks-listed}
+use Rattle.model.proofs.Entries.{entries-within, tasks-listed}
 use Rattle.model.proofs.Loads.{light, load-not-negative}
-use Rattle.model.proofs.Reading.{Reads, counts-read, refused-alike, reads-then}
-use Rattle.model.proofs.Passing.{Passes, passes-iff}
+use Rattle.model.proofs.Reading.{Reads, reads-then, counts-read, refused-alike}
+use Rattle.model.proofs.Passing.{passes-iff}
+use Rattle.model.specs.Passing.{Passes}
 use Rattle.model.proofs.OpenAlong.{full-allowed}
-use Rattle.model.proofs.Planning.{length-cells, plannable, plan-refused}
+use Rattle.model.proofs.Planning.{length-cells, plan-refused, plannable}
 use Rattle.view.specs.declared.View.{View}
 use Rattle.view.specs.Views.{viewOf, Viewed}
 use Rattle.view.proofs.Counted.{tasks-are}
@@ -31,7 +33,7 @@ use Rattle.planner.specs.Choosing.{startAt, Startable}
 
 -- what the reader refuses planning refuses, and leaves cells and buffer
 pub sheet-refused : (b cells buffer : List ℕ) {r : ℕ} → refused r ≡ readSheet b → plan b cells buffer ≡ record { answer = refused r; cells = cells; bytes = buffer }
-unfolding readSheet planFor
+unfolding readSheet planFor roomTests fewCells shortRoom
 sheet-refused b cells buffer {r} e = plan-refused b cells buffer r (refused-alike b _ _ _ r refl (sym e))
 
 module _ (b : List ℕ) (h : Reads b) where
@@ -42,21 +44,21 @@ module _ (b : List ℕ) (h : Reads b) where
 
   -- 20, and 21
   pub few-cells : (cells buffer : List ℕ) → length cells < cellsNeeded (decode b) → plan b cells buffer ≡ record { answer = refused 20; cells = cells; bytes = buffer }
-  unfolding planFor
+  unfolding planFor roomTests fewCells shortRoom
   few-cells cells buffer l = plan-refused b cells buffer 20 (reads-then b _ h ∙ rw (lt-ltb _ _ l))
 
   pub short-buffer : (cells buffer : List ℕ) → cellsNeeded (decode b) ≤ length cells → length buffer < planLength (decode b .tasks)
       → plan b cells buffer ≡ record { answer = refused 21; cells = cells; bytes = buffer }
-  unfolding planFor
+  unfolding planFor roomTests fewCells shortRoom
   short-buffer cells buffer c l = plan-refused b cells buffer 21 (reads-then b _ h ∙ rw (le-ltb (length cells) (cellsNeeded (decode b)) c, lt-ltb _ _ l))
 
   -- ---- what the calls ask
 
   module _ {v : View} (e : v ≡ viewOf b) where
     pub viewed : Viewed b v
-    unfolding kind1 decodeBy decode
+    unfolding layoutOf kind1 decodeBy decode
     viewed =
-        let w = entries-within kind1 b (h .passed-tests .counts) distancesBody (lit< tt) in
+        let w = entries-within (layoutOf b) b (h .passed-tests .counts) distancesBody (lit< tt) in
         let P : Passes b = passes-iff b .0 (h .passed-tests) in
         record { is = e; square = omega (arith, w .0, w .1); ends = P .ends }
 

@@ -7,7 +7,7 @@ use Prim.Native.Nat.{ℕ, _+_, _*_, _≤_, _<_}
 use native.Mathlib.Numerals.{add-one}
 use borrow.Author.Tests.{lt-ltb, le-ltb}
 use Rattle.model.specs.Folds.{passingBelow, cheaper, firstLeast}
-use Rattle.model.specs.TaskList.{maxListed, listsOf, fullOf}
+use Rattle.model.specs.Method.{maxListed, listsOf, fullOf}
 use Rattle.model.specs.SheetLayout.{decode}
 use Rattle.model.specs.Sheet.{Sheet}
 use Rattle.model.specs.Planning.{cellsNeeded}

@@ -5,7 +5,8 @@ use mathlib.Core.List.{List}
 use Prim.Native.Nat.{ℕ, _+_, _*_, _≤_, _<_}
 use lib.ListN.{length, getD}
 use Rattle.model.specs.Folds.{passingBelow, firstLeast}
-use Rattle.model.specs.TaskList.{maxListed, full}
+use Rattle.model.specs.TaskList.{full}
+use Rattle.model.specs.Method.{maxListed}
 use Rattle.model.specs.Sheet.{Sheet}
 use Rattle.model.specs.SheetLayout.{decode}
 use Rattle.view.specs.declared.View.{View}

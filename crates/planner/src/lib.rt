@@ -2,7 +2,7 @@
 ghost use mathlib.Core.Path.{_≡_};
 ghost use mathlib.Core.Option.{some};
 ghost use Prim.Native.Nat.{_≤_, _<_};
-ghost use Rattle.model.specs.TaskList.{maxListed};
+ghost use Rattle.model.specs.Method.{maxListed};
 ghost use Rattle.model.specs.Answer.{status};
 ghost use Rattle.model.specs.SheetLayout.{decode};
 ghost use Rattle.model.specs.Faults.{readSheet};

@@ -6,7 +6,7 @@ use Prim.Native.Nat.{ℕ, _+_, _*_, _<_}
 use native.Mathlib.Numerals.{add-one}
 use lib.Dec.{eqb, ltb}
 use lib.ListN.{getD}
-use Rattle.model.specs.SheetLayout.{distancesBody, pointsBody, kind1, entryBytes, entries, bodyAt}
+use Rattle.model.specs.SheetLayout.{pointsBody, distancesBody, kind1, entryBytes, entries, bodyAt, layoutOf}
 use Rattle.model.specs.Faults.{wrongEntries}
 use Rattle.model.proofs.Tests.{outside, exactly}
 use Rattle.tasklist.proofs.Table.{values}
@@ -16,8 +16,8 @@ use Rattle.tasklist.proofs.Table.{values}
 module _ (b : List ℕ) where
   -- the limits of the bodies before the distances, from the code's tables
   pub limits : (i x : ℕ) → i < distancesBody → x ≡ entries b i
-      → (ltb x (getD (1 ∷ 1 ∷ 1 ∷ 0 ∷ 0 ∷ 1 ∷ []) i 0) || ltb (getD (12 ∷ 64 ∷ 16 ∷ 32 ∷ 32 ∷ 64 ∷ []) i 0) x) ≡ wrongEntries kind1 b i
-  unfolding wrongEntries kind1
+      → (ltb x (getD (1 ∷ 1 ∷ 1 ∷ 0 ∷ 0 ∷ 1 ∷ []) i 0) || ltb (getD (12 ∷ 64 ∷ 16 ∷ 32 ∷ 32 ∷ 64 ∷ []) i 0) x) ≡ wrongEntries (layoutOf b) b i
+  unfolding wrongEntries layoutOf kind1
   limits i x l e = rw (
     values (λ j. getD (kind1 .fewest (entries b pointsBody)) j 0) (1 ∷ 1 ∷ 1 ∷ 0 ∷ 0 ∷ 1 ∷ []) i l refl,
     values (λ j. getD (kind1 .most (entries b pointsBody)) j 0) (12 ∷ 64 ∷ 16 ∷ 32 ∷ 32 ∷ 64 ∷ []) i l refl,
@@ -25,12 +25,12 @@ module _ (b : List ℕ) where
   ) (outside _ _ (entries b i))
 
   -- the distances: as many as pairs of points
-  pub all-distances : (p x : ℕ) → p ≡ entries b pointsBody → x ≡ entries b distancesBody → not (eqb x (p * p)) ≡ wrongEntries kind1 b distancesBody
-  unfolding wrongEntries kind1
+  pub all-distances : (p x : ℕ) → p ≡ entries b pointsBody → x ≡ entries b distancesBody → not (eqb x (p * p)) ≡ wrongEntries (layoutOf b) b distancesBody
+  unfolding wrongEntries layoutOf kind1
   all-distances p x e f = rw (e, f) (exactly _ _)
 
   -- ---- fault 13
 
   -- the next body begins behind this one
-  pub next-body : (i at n w : ℕ) → at ≡ bodyAt kind1 b i → n ≡ entries b i → w ≡ entryBytes kind1 i → at + n * w ≡ bodyAt kind1 b (i + 1)
+  pub next-body : (i at n w : ℕ) → at ≡ bodyAt (layoutOf b) b i → n ≡ entries b i → w ≡ entryBytes (layoutOf b) i → at + n * w ≡ bodyAt (layoutOf b) b (i + 1)
   next-body i at n w a e f = rw (add-one, a, e, f)

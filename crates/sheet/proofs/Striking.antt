@@ -1,14 +1,15 @@
 -- Striking off as the code does it: a pair that a task waits for, a task struck off, one task more of a pass, one pass more; an empty list stays empty. Assumes nothing.
 use mathlib.Core.Path.{_≡_, refl, ap, _∙_}
 use mathlib.Core.Bool.{Bool, true, false, cond, not, _&&_}
-use Prim.Native.Nat.{ℕ, zero, suc, _+_, _-_, _≤_, _<_}
+use Prim.Native.Nat.{ℕ, zero, suc, _+_, _≤_, _<_}
 use native.Mathlib.Decide.{le-ind}
 use native.Mathlib.Numerals.{add-one}
 use lib.Dec.{eqb}
 use Rattle.model.specs.Folds.{allBelow}
 use Rattle.model.specs.TaskList.{member, without}
 use Rattle.model.specs.Sheet.{Sheet}
-use Rattle.model.specs.Orders.{pairWithin, isFree, canComeFirst, strikeBelow, strikeOff}
+use Rattle.model.specs.Orders.{pairWithin}
+use Rattle.model.specs.Method.{isFree, canComeFirst, strikeBelow, strikeOff}
 use Rattle.model.proofs.Tests.{all-false, all-next}
 use Rattle.model.proofs.Masks.{bit-none}
 

@@ -1,11 +1,10 @@
 // Fault 15: a task without a door.
 ghost use mathlib.Core.Path.{_≡_};
-ghost use Rattle.model.specs.Folds.{anyBelow};
 ghost use Rattle.model.specs.SheetLayout.{decode};
-ghost use Rattle.model.specs.Faults.{lacksDoor};
+ghost use Rattle.model.specs.Faults.{someLacksDoor};
 
 pub(crate) fn some_lacks_door(s: &[u8]) -> bool
-    ensures { λ r. ⌜ r ≡ anyBelow (decode (now (s .entry)) .tasks) (lacksDoor (decode (now (s .entry)))) ⌝ }
+    ensures { λ r. ⌜ r ≡ someLacksDoor (decode (now (s .entry))) ⌝ }
 {
     let tasks = field::tasks(s);
     let doors = field::doors(s);

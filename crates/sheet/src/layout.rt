@@ -1,10 +1,8 @@
 // Faults 10 to 13: the head of a sheet, its contents lines and its length.
 ghost use mathlib.Core.Path.{_≡_};
-ghost use mathlib.Core.Bool.{_||_};
 ghost use Prim.Native.Nat.{_<_};
-ghost use Rattle.model.specs.Folds.{anyBelow};
-ghost use Rattle.model.specs.SheetLayout.{kind1, bodies, distancesBody, entryBytes, bodyAt};
-ghost use Rattle.model.specs.Faults.{tooShort, wrongKind, wrongEntries, wrongLine, wrongLength};
+ghost use Rattle.model.specs.SheetLayout.{distancesBody, bodies, entryBytes, bodyAt, layoutOf};
+ghost use Rattle.model.specs.Faults.{tooShort, wrongKind, wrongEntries, someWrongEntries, wrongLine, wrongPlaces};
 use field::BODIES;
 use field::DISTANCES_BODY;
 use field::POINTS_BODY;
@@ -35,7 +33,7 @@ pub(crate) fn too_short(s: &[u8]) -> bool
 }
 
 pub(crate) fn wrong_kind(s: &[u8]) -> bool
-    ensures { λ r. ⌜ r ≡ wrongKind kind1 (now (s .entry)) ⌝ }
+    ensures { λ r. ⌜ r ≡ wrongKind (layoutOf (now (s .entry))) (now (s .entry)) ⌝ }
 {
     field::kind(s) != KIND
 }
@@ -43,7 +41,7 @@ pub(crate) fn wrong_kind(s: &[u8]) -> bool
 // Whether the number of entries of body i, one before the distances, is outside its limits.
 fn wrong_entries(s: &[u8], i: u16) -> bool
     requires { ⌜ i < distancesBody ⌝ }
-    ensures { λ r. ⌜ r ≡ wrongEntries kind1 (now (s .entry)) i ⌝ }
+    ensures { λ r. ⌜ r ≡ wrongEntries (layoutOf (now (s .entry))) (now (s .entry)) i ⌝ }
 {
     let count = entries(s, i);
     let at = i as usize;
@@ -52,7 +50,7 @@ fn wrong_entries(s: &[u8], i: u16) -> bool
 
 // There are P times P distances; the other bodies have their limits.
 pub(crate) fn some_wrong_entries(s: &[u8]) -> bool
-    ensures { λ r. ⌜ r ≡ anyBelow bodies (wrongEntries kind1 (now (s .entry))) ⌝ }
+    ensures { λ r. ⌜ r ≡ someWrongEntries (layoutOf (now (s .entry))) (now (s .entry)) ⌝ }
 {
     let mut i: u16 = 0;
     while i < DISTANCES_BODY {
@@ -65,24 +63,25 @@ pub(crate) fn some_wrong_entries(s: &[u8]) -> bool
     entries(s, DISTANCES_BODY) as u32 != points * points
 }
 
-fn entry_bytes(i: u16) -> u32
+// The bytes of an entry of body i, by the layout of the sheet. There is one, whatever the sheet.
+fn entry_bytes(s: &[u8], i: u16) -> u32
     requires { ⌜ i < bodies ⌝ }
-    ensures { λ r. ⌜ r ≡ entryBytes kind1 i ⌝ }
+    ensures { λ r. ⌜ r ≡ entryBytes (layoutOf (now (s .entry))) i ⌝ }
 {
     SIZES[i as usize]
 }
 
 // Whether contents line i has a wrong body number or offset, where the body is at a place.
 fn wrong_line(s: &[u8], i: u16, at: usize) -> bool
-    requires { ⌜ (i < bodies) × (at ≡ bodyAt kind1 (now s) i) ⌝ }
-    ensures { λ r. ⌜ r ≡ wrongLine kind1 (now (s .entry)) i ⌝ }
+    requires { ⌜ (i < bodies) × (at ≡ bodyAt (layoutOf (now s)) (now s) i) ⌝ }
+    ensures { λ r. ⌜ r ≡ wrongLine (layoutOf (now (s .entry))) (now (s .entry)) i ⌝ }
 {
     (field::line_body(s, i) != i + 1) | (field::line_offset(s, i) as usize != at)
 }
 
 // The place of each body is summed up from the numbers of entries.
 pub(crate) fn wrong_places(s: &[u8]) -> bool
-    ensures { λ r. ⌜ r ≡ (anyBelow bodies (wrongLine kind1 (now (s .entry))) || wrongLength kind1 (now (s .entry))) ⌝ }
+    ensures { λ r. ⌜ r ≡ wrongPlaces (layoutOf (now (s .entry))) (now (s .entry)) ⌝ }
 {
     let mut at = field::HEAD_BYTES as usize;
     let mut i: u16 = 0;
@@ -90,7 +89,7 @@ pub(crate) fn wrong_places(s: &[u8]) -> bool
         if wrong_line(s, i, at) {
             return true;
         }
-        at = at + entries(s, i) as usize * entry_bytes(i) as usize;
+        at = at + entries(s, i) as usize * entry_bytes(s, i) as usize;
         i = i + 1;
     }
     s.len() != at

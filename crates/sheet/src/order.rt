@@ -1,10 +1,7 @@
 // Fault 17, decided by striking off: again and again, each task that can come first in what is left.
 ghost use mathlib.Core.Path.{_≡_};
-ghost use mathlib.Core.Bool.{cond, not};
-ghost use lib.Dec.{eqb};
-ghost use Rattle.model.specs.TaskList.{without, fullOf};
+ghost use Rattle.model.specs.Method.{isFree, strike, strikeBelow, somethingLeft};
 ghost use Rattle.model.specs.SheetLayout.{decode};
-ghost use Rattle.model.specs.Orders.{isFree, canComeFirst, strikeBelow, strikeOff};
 
 // Whether task t is receiver in no pair within list k.
 fn is_free(s: &[u8], k: u32, t: u16) -> bool
@@ -25,7 +22,7 @@ fn is_free(s: &[u8], k: u32, t: u16) -> bool
 
 // List k, with task t struck off if it can come first in k.
 fn strike(s: &[u8], k: u32, t: u16) -> u32
-    ensures { λ r. ⌜ r ≡ cond (canComeFirst (decode (now (s .entry))) k t) (without k t) k ⌝ }
+    ensures { λ r. ⌜ r ≡ strike (decode (now (s .entry))) k t ⌝ }
 {
     if tasklist::contains(k, t) & is_free(s, k, t) {
         tasklist::without(k, t)
@@ -50,7 +47,7 @@ fn strike_pass(s: &[u8], k: u32) -> u32
 
 // Whether as many passes as there are tasks leave something of the full list. An empty list stays empty.
 pub(crate) fn something_left(s: &[u8]) -> bool
-    ensures { λ r. ⌜ r ≡ not (eqb (strikeOff (decode (now (s .entry))) (decode (now (s .entry)) .tasks) (fullOf (decode (now (s .entry)) .tasks))) 0) ⌝ }
+    ensures { λ r. ⌜ r ≡ somethingLeft (decode (now (s .entry))) ⌝ }
 {
     let tasks = field::tasks(s);
     let mut left = tasklist::full(tasks);

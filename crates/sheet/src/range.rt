@@ -1,10 +1,9 @@
 // Fault 14: tasks, points, doors, least counts and watched tasks within their ranges.
 ghost use mathlib.Core.Path.{_≡_};
 ghost use Prim.Native.Nat.{_≤_};
-ghost use Rattle.model.specs.Folds.{anyBelow};
-ghost use Rattle.model.specs.TaskList.{maxListed};
-ghost use Rattle.model.specs.SheetLayout.{kind1, decode};
-ghost use Rattle.model.specs.Faults.{badDoor, badStart, badPair, badRule, outOfRange};
+ghost use Rattle.model.specs.Method.{maxListed};
+ghost use Rattle.model.specs.SheetLayout.{layoutOf, decode};
+ghost use Rattle.model.specs.Faults.{badDoor, badStart, badPair, badRule, someBadDoor, someBadStart, someBadPair, someBadRule, outOfRange};
 
 const MAX_LEAST_COUNT: u16 = 12;
 
@@ -32,7 +31,7 @@ fn bad_pair(s: &[u8], i: u16) -> bool
 // A number of tasks that the table of powers serves is asked for: fault 12 is tested first.
 fn bad_rule(s: &[u8], i: u16) -> bool
     requires { ⌜ decode (now s) .tasks ≤ maxListed ⌝ }
-    ensures { λ r. ⌜ r ≡ badRule kind1 (decode (now (s .entry))) i ⌝ }
+    ensures { λ r. ⌜ r ≡ badRule (layoutOf (now (s .entry))) (decode (now (s .entry))) i ⌝ }
 {
     let lists = tasklist::lists(field::tasks(s));
     let least = field::least_count(s, i);
@@ -41,7 +40,7 @@ fn bad_rule(s: &[u8], i: u16) -> bool
 }
 
 fn some_bad_door(s: &[u8]) -> bool
-    ensures { λ r. ⌜ r ≡ anyBelow (decode (now (s .entry)) .doors) (badDoor (decode (now (s .entry)))) ⌝ }
+    ensures { λ r. ⌜ r ≡ someBadDoor (decode (now (s .entry))) ⌝ }
 {
     let doors = field::doors(s);
     let mut d: u16 = 0;
@@ -55,7 +54,7 @@ fn some_bad_door(s: &[u8]) -> bool
 }
 
 fn some_bad_start(s: &[u8]) -> bool
-    ensures { λ r. ⌜ r ≡ anyBelow (decode (now (s .entry)) .starts) (badStart (decode (now (s .entry)))) ⌝ }
+    ensures { λ r. ⌜ r ≡ someBadStart (decode (now (s .entry))) ⌝ }
 {
     let starts = field::starts(s);
     let mut i: u16 = 0;
@@ -69,7 +68,7 @@ fn some_bad_start(s: &[u8]) -> bool
 }
 
 fn some_bad_pair(s: &[u8]) -> bool
-    ensures { λ r. ⌜ r ≡ anyBelow (decode (now (s .entry)) .pairs) (badPair (decode (now (s .entry)))) ⌝ }
+    ensures { λ r. ⌜ r ≡ someBadPair (decode (now (s .entry))) ⌝ }
 {
     let pairs = field::pairs(s);
     let mut i: u16 = 0;
@@ -84,7 +83,7 @@ fn some_bad_pair(s: &[u8]) -> bool
 
 fn some_bad_rule(s: &[u8]) -> bool
     requires { ⌜ decode (now s) .tasks ≤ maxListed ⌝ }
-    ensures { λ r. ⌜ r ≡ anyBelow (decode (now (s .entry)) .rules) (badRule kind1 (decode (now (s .entry)))) ⌝ }
+    ensures { λ r. ⌜ r ≡ someBadRule (layoutOf (now (s .entry))) (decode (now (s .entry))) ⌝ }
 {
     let rules = field::rules(s);
     let mut i: u16 = 0;
@@ -99,7 +98,7 @@ fn some_bad_rule(s: &[u8]) -> bool
 
 pub(crate) fn out_of_range(s: &[u8]) -> bool
     requires { ⌜ decode (now s) .tasks ≤ maxListed ⌝ }
-    ensures { λ r. ⌜ r ≡ outOfRange kind1 (decode (now (s .entry))) ⌝ }
+    ensures { λ r. ⌜ r ≡ outOfRange (layoutOf (now (s .entry))) (decode (now (s .entry))) ⌝ }
 {
     some_bad_door(s) | some_bad_start(s) | some_bad_pair(s) | some_bad_rule(s)
 }

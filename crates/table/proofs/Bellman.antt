@@ -10,9 +10,10 @@ use lib.ListN.{length, getD, length-map}
 use lib.Pow.{areBytes, pow-pos}
 use Rattle.model.specs.TaskList.{without, size}
 use Rattle.model.specs.Sheet.{Sheet}
-use Rattle.model.specs.Orders.{essential, pairsAllow, canComeFirst}
+use Rattle.model.specs.Orders.{essential, pairsAllow}
+use Rattle.model.specs.Method.{canComeFirst, firstDoors}
 use Rattle.model.specs.Cost.{load, stepCost}
-use Rattle.model.specs.Plans.{firstDoors, costToGo}
+use Rattle.model.specs.Plans.{costToGo}
 use Rattle.model.specs.SheetLayout.{maxTasks, decode}
 use Rattle.model.proofs.Folds.{length-mapBelow, mapBelow-at}
 use Rattle.model.proofs.Masks.{bit-le, without-is, size-zero}

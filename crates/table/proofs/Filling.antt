@@ -7,10 +7,10 @@ use Prim.Native.Nat.{ℕ, _+_, _-_, _*_, _/_, _%_, _^_, _≤_, _<_}
 use native.Mathlib.Nat.{le-div-iff-mul-le, div-lt-iff-lt-mul, zero-mul}
 use native.Mathlib.Omega.{arith}
 use lib.Arith.{digits-lt, digits-div, digits-mod}
-use lib.Dec.{ltb, eqb}
+use lib.Dec.{eqb, ltb}
 use lib.ListN.{length, getD, take, drop, length-append, List·getD-append}
-use lib.Seq.{length-take-le, getD-take, getD-drop, getD-append-add, ext-getD}
-use borrow.Author.Tests.{ltb-true, ltb-false, lt-ltb, le-ltb, eqb-true, eqb-false, ne-eqb, le-leb}
+use lib.Seq.{getD-take, getD-drop, getD-append-add, length-take-le, ext-getD}
+use borrow.Author.Tests.{eqb-true, eqb-false, ne-eqb, ltb-true, ltb-false, lt-ltb, le-ltb, le-leb}
 use Rattle.model.specs.Folds.{mapBelow}
 use Rattle.model.specs.Sheet.{Sheet}
 use Rattle.model.specs.Orders.{essential, pairsAllow}
@@ -20,7 +20,7 @@ use Rattle.model.specs.Planning.{cellAfter, cellsAfter}
 use Rattle.model.proofs.Tests.{tested, same-test, or-neither}
 use Rattle.model.proofs.Folds.{length-mapBelow, mapBelow-at}
 use Rattle.model.proofs.Overwriting.{length-over, over-front}
-use Rattle.model.proofs.Ranges.{InRange}
+use Rattle.model.specs.Passing.{InRange}
 use Rattle.model.proofs.Completions.{to-go-none}
 use Rattle.table.specs.Cells.{cellBelow, cellsBelow, Shown}
 use Rattle.table.proofs.Parts.{map-cong-below}

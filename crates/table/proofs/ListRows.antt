@@ -10,7 +10,8 @@ use Rattle.model.specs.Folds.{mapBelow}
 use Rattle.model.specs.Bytes.{overwrite}
 use Rattle.model.specs.Orders.{essential}
 use Rattle.model.specs.Cost.{load}
-use Rattle.model.specs.Plans.{firstDoors, costToGo}
+use Rattle.model.specs.Plans.{costToGo}
+use Rattle.model.specs.Method.{firstDoors}
 use Rattle.model.specs.SheetLayout.{decode}
 use Rattle.view.specs.declared.View.{View}
 use Rattle.view.proofs.Counted.{points-are}

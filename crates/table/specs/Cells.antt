@@ -13,8 +13,7 @@ use Rattle.model.specs.Orders.{essential, pairsAllow}
 use Rattle.model.specs.Cost.{load}
 use Rattle.model.specs.Plans.{costToGo}
 use Rattle.model.specs.SheetLayout.{maxTasks, decode}
-use Rattle.model.proofs.Limits.{CountsWithin}
-use Rattle.model.proofs.Driving.{Plannable}
+use Rattle.model.specs.Passing.{CountsWithin, Plannable}
 use Rattle.view.specs.declared.View.{View}
 use Rattle.view.specs.Views.{Viewed}
 

@@ -13,10 +13,11 @@ use lib.Bits.{bitAnd, bitOr, and-mask, and-step, or-step, and-shr, or-shr, and-l
 use lib.Count.{ones, ones-step}
 use borrow.Author.Tests.{eqb-true, eqb-false, lt-ltb, le-ltb}
 use Rattle.model.specs.Folds.{sumBelow, countBelow}
-use Rattle.model.specs.TaskList.{bit, member, with, without, full, watchedIn, withIn}
+use Rattle.model.specs.TaskList.{bit, member, with, without, full, watchedIn}
+use Rattle.model.specs.Method.{withIn}
 use Rattle.model.proofs.Tests.{tested}
 use Rattle.model.proofs.Folds.{sum-cong, sum-first}
-use Rattle.model.proofs.Masks.{bit-zero, bit-suc, bit-lt, bit-none, bit-cases, bit-above, counted, full-bit, without-is, without-none, without-same, without-other, without-le, with-is, with-same, with-other, same-members}
+use Rattle.model.proofs.Masks.{bit-zero, bit-suc, bit-lt, bit-none, bit-cases, counted, bit-above, full-bit, without-is, without-none, without-same, without-other, without-le, with-is, with-same, with-other, same-members}
 
 -- ---- single bits
 

@@ -1,6 +1,7 @@
 // Lists of tasks as masks of 32 bits: bit j stands for task j. Every function takes any number of its type.
 ghost use mathlib.Core.Path.{_≡_};
-ghost use Rattle.model.specs.TaskList.{member, without, withIn, watchedIn, maskBits, listsOf, fullOf};
+ghost use Rattle.model.specs.TaskList.{member, without, watchedIn};
+ghost use Rattle.model.specs.Method.{withIn, maskBits, listsOf, fullOf};
 
 const MASK_BITS: u16 = 32;
 

@@ -18,7 +18,7 @@ use Rattle.model.specs.Printing.{ascii, refusalLine, planLines, printedWith, pr
 use Rattle.model.proofs.Folds.{flat-cong, length-mapBelow}
 use Rattle.model.proofs.Numbers.{number-front}
 use Rattle.model.proofs.Reading.{Reads, counts-read}
-use Rattle.model.proofs.Solutions.{Solution, solution, solution-length, solution-fits}
+use Rattle.model.proofs.Solutions.{SolutionTests, solution, solution-length, solution-fits}
 use Rattle.model.proofs.Cheapest.{cheapest-solution}
 use Rattle.model.proofs.Bounds.{round-small}
 use Rattle.model.proofs.PlanBytes.{length-plan, start-again, doors-again, cost-again}
@@ -49,7 +49,7 @@ module _ (n s : ℕ) (ds : List ℕ) (c : ℕ) (more : List ℕ) where
 
 module _ {b : List ℕ} (bytes : areBytes b ≡ true) {x : Plan} {c : ℕ} (reads : Reads b) (best : cheapest (decode b) ≡ some x) (cost : planCost (decode b) x ≡ c)
     (q buffer : List ℕ) (written : q ≡ overwrite (planBytes (decode b .tasks) (x .start) (x .doors) c) buffer) where
-  solves : Solution (decode b) (x .start) (x .doors)
+  solves : SolutionTests (decode b) (x .start) (x .doors)
   solves = solution (decode b) (x .start) (x .doors) (cheapest-solution (decode b) x best)
 
   small : (x .start < 2 ^ 16) × ((i : ℕ) → i < decode b .tasks → getD (x .doors) i 0 < 2 ^ 16)

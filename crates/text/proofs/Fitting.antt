@@ -12,7 +12,7 @@ use lib.Pow.{areBytes, pow-mono}
 use borrow.Author.Tests.{ltb-true}
 use Rattle.model.specs.TaskList.{without, full}
 use Rattle.model.specs.Sheet.{Sheet}
-use Rattle.model.specs.Orders.{canComeFirst}
+use Rattle.model.specs.Method.{canComeFirst}
 use Rattle.model.specs.Plans.{Plan, planCost, cheapest, isCompletion}
 use Rattle.model.specs.Answer.{Answer, refused, accepted}
 use Rattle.model.specs.SheetLayout.{decode}
@@ -20,16 +20,15 @@ use Rattle.model.specs.PlanLayout.{maxPlanDoors, planLength}
 use Rattle.model.specs.Planning.{planFor}
 use Rattle.model.specs.Printing.{refusalLine, stepLines, planLines, answerLines, printedWith}
 use Rattle.model.proofs.Tests.{and-left, and-right}
-use Rattle.model.proofs.Masks.{without-le, full-lt}
-use Rattle.model.proofs.Limits.{CountsWithin}
-use Rattle.model.proofs.Ranges.{InRange}
+use Rattle.model.proofs.Masks.{full-lt, without-le}
+use Rattle.model.specs.Passing.{CountsWithin, InRange}
 use Rattle.model.proofs.Reading.{Reads, counts-read}
 use Rattle.model.proofs.Completions.{completes-is, open-is}
 use Rattle.model.proofs.Solutions.{solution, solution-length, solution-fits}
 use Rattle.model.proofs.Cheapest.{cheapest-solution}
 use Rattle.model.proofs.Bounds.{round-small}
 use Rattle.model.proofs.Starts.{solution-completes}
-use Rattle.model.proofs.Planning.{plan-refusals, accepted-plan, plannable}
+use Rattle.model.proofs.Planning.{accepted-plan, plan-refusals, plannable}
 use Rattle.text.specs.Lines.{maxStep, maxText}
 use Rattle.text.proofs.Laying.{few, long-step}
 

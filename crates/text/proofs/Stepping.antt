@@ -5,17 +5,17 @@ use mathlib.Core.List.{List, [], _∷_, _++_, append-assoc, append-nil}
 use Prim.Native.Nat.{ℕ, _+_, _*_, _^_, _≤_, _<_}
 use native.Mathlib.Omega.{arith}
 use lib.Dec.{ltb}
-use lib.ListN.{length, getD, drop, length-append, drop-of-length-le}
+use lib.ListN.{length, getD, drop, drop-of-length-le, length-append}
 use lib.Pow.{pow-mono}
-use Rattle.model.specs.TaskList.{without, full, fullOf}
-use Rattle.model.specs.Orders.{canComeFirst}
+use Rattle.model.specs.TaskList.{without, full}
+use Rattle.model.specs.Method.{fullOf, canComeFirst}
 use Rattle.model.specs.Plans.{isCompletion}
 use Rattle.model.specs.SheetLayout.{decode}
 use Rattle.model.specs.PlanLayout.{maxPlanDoors}
 use Rattle.model.specs.Printing.{stepLine, stepLines}
 use Rattle.model.proofs.Tests.{and-right}
 use Rattle.model.proofs.Walks.{from}
-use Rattle.model.proofs.Masks.{without-le, full-lt, full-of}
+use Rattle.model.proofs.Masks.{full-lt, without-le, full-of}
 use Rattle.model.proofs.Overwriting.{over-none}
 use Rattle.model.proofs.Completions.{completes-is, open-is}
 use Rattle.text.specs.Lines.{maxStep, Laid}

@@ -8,7 +8,7 @@ use Rattle.model.specs.TaskList.{full}
 use Rattle.model.specs.Plans.{Plan, planCost, isCompletion}
 use Rattle.model.specs.SheetLayout.{maxTasks, decode}
 use Rattle.model.specs.PlanLayout.{maxPlanDoors, startIn, doorsIn, costIn}
-use Rattle.model.proofs.Ranges.{InRange}
+use Rattle.model.specs.Passing.{InRange}
 
 -- of the sheet b, the lines of steps: every number is in range, there is a power of two for the tasks, and the doors, no more than a plan has, complete the full list
 pub record Steps (b ds : List ℕ) : Type 0 where

@@ -1,11 +1,9 @@
 // The checks of 31 to 33, on any doors and tasks.
 ghost use mathlib.Core.Path.{_≡_};
-ghost use mathlib.Core.Bool.{not};
 ghost use mathlib.Core.List.{map};
 ghost use Rattle.model.specs.Folds.{countOf, indexOf};
 ghost use Rattle.model.specs.SheetLayout.{decode};
-ghost use Rattle.model.specs.Orders.{keepsEveryPair};
-ghost use Rattle.model.specs.Validating.{notInSheet, doneTwice};
+ghost use Rattle.model.specs.Validating.{notInSheet, doneTwice, breaksPair};
 use plan::MAX_DOORS;
 
 // 31: whether the start or a door is not in the sheet.
@@ -88,7 +86,7 @@ fn index_of(t: u16, tasks: &[u16]) -> usize
 
 // 33: whether a receiver is not done behind its sender.
 pub(crate) fn breaks_pair(s: &[u8], tasks: &[u16]) -> bool
-    ensures { λ r. ⌜ r ≡ not (keepsEveryPair (decode (now (s .entry))) (now (tasks .entry))) ⌝ }
+    ensures { λ r. ⌜ r ≡ breaksPair (decode (now (s .entry))) (now (tasks .entry)) ⌝ }
 {
     let pairs = field::pairs(s);
     let mut i: u16 = 0;

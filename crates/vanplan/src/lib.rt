@@ -1,10 +1,9 @@
 // The C interface, which include/vanplan.h documents. Each call returns 0, or the refusal's number with nothing written.
 ghost use mathlib.Core.Path.{_≡_};
-ghost use Prim.Native.Nat.{ℕ};
 ghost use lib.ListN.{length};
-ghost use Rattle.model.specs.Answer.{status, placed};
-ghost use Rattle.model.specs.Faults.{Counts, readSheet};
-ghost use Rattle.model.specs.PlanLayout.{writePlan, PlanRead, readPlan};
+ghost use Rattle.model.specs.Answer.{status, placedNumber};
+ghost use Rattle.model.specs.Faults.{readSheet, tasksLeft, pointsLeft};
+ghost use Rattle.model.specs.PlanLayout.{writePlan, readPlan, startLeft, doorsLeft, costLeft};
 ghost use Rattle.model.specs.Planning.{plan};
 ghost use Rattle.model.specs.Validating.{validate};
 use plan::Writing;
@@ -19,8 +18,8 @@ const OK: u32 = 0;
 #[no_mangle]
 pub extern "C" fn vanplan_read(sheet: &[u8], tasks: &mut u64, points: &mut u64) -> u32
     ensures returned { λ r. ⌜ r ≡ status (readSheet (now (sheet .entry))) ⌝ }
-    ensures tasks { λ r. ⌜ now (tasks .exit) ≡ placed (λ (c : Counts). c .tasks) (readSheet (now (sheet .entry))) (now (tasks .entry)) ⌝ }
-    ensures points { λ r. ⌜ now (points .exit) ≡ placed (λ (c : Counts). c .points) (readSheet (now (sheet .entry))) (now (points .entry)) ⌝ }
+    ensures tasks { λ r. ⌜ now (tasks .exit) ≡ tasksLeft (now (sheet .entry)) (now (tasks .entry)) ⌝ }
+    ensures points { λ r. ⌜ now (points .exit) ≡ pointsLeft (now (sheet .entry)) (now (points .entry)) ⌝ }
 {
     let reading = sheet::read(sheet);
     match reading {
@@ -44,7 +43,7 @@ pub extern "C" fn vanplan_plan(
     ensures returned { λ r. ⌜ r ≡ status (plan (now (sheet .entry)) (now (cells .entry)) (now (buf .entry)) .answer) ⌝ }
     ensures cells { λ r. ⌜ now (cells .exit) ≡ plan (now (sheet .entry)) (now (cells .entry)) (now (buf .entry)) .cells ⌝ }
     ensures bytes { λ r. ⌜ now (buf .exit) ≡ plan (now (sheet .entry)) (now (cells .entry)) (now (buf .entry)) .bytes ⌝ }
-    ensures cost { λ r. ⌜ now (cost .exit) ≡ placed (λ (c : ℕ). c) (plan (now (sheet .entry)) (now (cells .entry)) (now (buf .entry)) .answer) (now (cost .entry)) ⌝ }
+    ensures cost { λ r. ⌜ now (cost .exit) ≡ placedNumber (plan (now (sheet .entry)) (now (cells .entry)) (now (buf .entry)) .answer) (now (cost .entry)) ⌝ }
 {
     let planning = planner::plan(sheet, cells, buf);
     match planning {
@@ -68,7 +67,7 @@ pub extern "C" fn vanplan_write_plan(
 ) -> u32
     ensures returned { λ r. ⌜ r ≡ status (writePlan n start (now (doors .entry)) cost (now (buf .entry)) .answer) ⌝ }
     ensures buffer { λ r. ⌜ now (buf .exit) ≡ writePlan n start (now (doors .entry)) cost (now (buf .entry)) .bytes ⌝ }
-    ensures written { λ r. ⌜ now (written .exit) ≡ placed (λ (l : ℕ). l) (writePlan n start (now (doors .entry)) cost (now (buf .entry)) .answer) (now (written .entry)) ⌝ }
+    ensures written { λ r. ⌜ now (written .exit) ≡ placedNumber (writePlan n start (now (doors .entry)) cost (now (buf .entry)) .answer) (now (written .entry)) ⌝ }
 {
     let writing = plan::write(n, start, doors, cost, buf);
     match writing {
@@ -90,9 +89,9 @@ pub extern "C" fn vanplan_read_plan(
     cost: &mut u64,
 ) -> u32
     ensures returned { λ r. ⌜ r ≡ status (readPlan n (length (now (doors .entry))) (now (bytes .entry))) ⌝ }
-    ensures start { λ r. ⌜ now (start .exit) ≡ placed (λ (x : PlanRead). x .start) (readPlan n (length (now (doors .entry))) (now (bytes .entry))) (now (start .entry)) ⌝ }
-    ensures doors { λ r. ⌜ now (doors .exit) ≡ placed (λ (x : PlanRead). x .doors) (readPlan n (length (now (doors .entry))) (now (bytes .entry))) (now (doors .entry)) ⌝ }
-    ensures cost { λ r. ⌜ now (cost .exit) ≡ placed (λ (x : PlanRead). x .cost) (readPlan n (length (now (doors .entry))) (now (bytes .entry))) (now (cost .entry)) ⌝ }
+    ensures start { λ r. ⌜ now (start .exit) ≡ startLeft n (length (now (doors .entry))) (now (bytes .entry)) (now (start .entry)) ⌝ }
+    ensures doors { λ r. ⌜ now (doors .exit) ≡ doorsLeft n (now (bytes .entry)) (now (doors .entry)) ⌝ }
+    ensures cost { λ r. ⌜ now (cost .exit) ≡ costLeft n (length (now (doors .entry))) (now (bytes .entry)) (now (cost .entry)) ⌝ }
 {
     let reading = plan::read(n, bytes, start, doors, cost);
     match reading {
@@ -105,7 +104,7 @@ pub extern "C" fn vanplan_read_plan(
 #[no_mangle]
 pub extern "C" fn vanplan_validate(sheet: &[u8], plan: &[u8], cost: &mut u64) -> u32
     ensures returned { λ r. ⌜ r ≡ status (validate (now (sheet .entry)) (now (plan .entry))) ⌝ }
-    ensures cost { λ r. ⌜ now (cost .exit) ≡ placed (λ (c : ℕ). c) (validate (now (sheet .entry)) (now (plan .entry))) (now (cost .entry)) ⌝ }
+    ensures cost { λ r. ⌜ now (cost .exit) ≡ placedNumber (validate (now (sheet .entry)) (now (plan .entry))) (now (cost .entry)) ⌝ }
 {
     let validation = validate::validate(sheet, plan);
     match validation {

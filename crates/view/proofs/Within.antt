@@ -8,7 +8,7 @@ use lib.Arith.{digits-lt}
 use lib.Dec.{lit<}
 use lib.ListN.{length, getD}
 use Rattle.model.specs.Bytes.{numberAt}
-use Rattle.model.specs.SheetLayout.{distancesBody, bodies, kind1, entries, bodyAt, fieldWidth, bytesBefore, entryBytes, decodeBy, decode}
+use Rattle.model.specs.SheetLayout.{distancesBody, bodies, kind1, fieldWidth, bytesBefore, entryBytes, entries, bodyAt, decodeBy, layoutOf, decode}
 use Rattle.model.proofs.Passing.{field-within}
 use Rattle.field.specs.Places.{placesOf}
 use Rattle.field.proofs.Fields.{at-place}
@@ -16,14 +16,14 @@ use Rattle.view.specs.declared.View.{View}
 use Rattle.view.specs.Views.{viewOf, distancesAt, Viewed}
 
 -- field f of entry e of body i, where `place` is the body's
-pub within : (i f e : ℕ) {b : List ℕ} {v : View} {place : ℕ} → Viewed b v → place ≡ bodyAt kind1 b i → i < bodies → e < entries b i
-    → f < length (getD (kind1 .fieldWidths) i []) → place + e * entryBytes kind1 i + bytesBefore kind1 i f + fieldWidth kind1 i f ≤ length b
-within i f e {b} h p li le lf = rw p (field-within kind1 b (h .ends) i e f li le lf)
+pub within : (i f e : ℕ) {b : List ℕ} {v : View} {place : ℕ} → Viewed b v → place ≡ bodyAt (layoutOf b) b i → i < bodies → e < entries b i
+    → f < length (getD ((layoutOf b) .fieldWidths) i []) → place + e * entryBytes (layoutOf b) i + bytesBefore (layoutOf b) i f + fieldWidth (layoutOf b) i f ≤ length b
+within i f e {b} h p li le lf = rw p (field-within (layoutOf b) b (h .ends) i e f li le lf)
 
 module _ {b : List ℕ} {v : View} (h : Viewed b v) (p q : ℕ) (lp : p < decode b .points) (lq : q < decode b .points) where
   -- the distance from p to q is among the P times P
   pub distance-within : v .at .distances + (p * v .points + q) * 2 + 2 ≤ length b
-  unfolding viewOf placesOf kind1 fieldWidth bytesBefore entryBytes
+  unfolding viewOf placesOf layoutOf kind1 fieldWidth bytesBefore entryBytes
   distance-within =
       let w = within distancesBody 0 (p * decode b .points + q) h (ap (λ (x : View). x .at .distances) (h .is)) (lit< tt) (rw (h .square) (digits-lt lp lq)) (lit< tt) in
       let e : v .points ≡ decode b .points = ap (λ (x : View). x .points) (h .is) in
@@ -31,9 +31,9 @@ module _ {b : List ℕ} {v : View} (h : Viewed b v) (p q : ℕ) (lp : p < decode
 
   -- and is the only field of the last body, at the entry that row and column give
   pub distance-is : (r : ℕ) → r ≡ numberAt 2 b (v .at .distances + (p * v .points + q) * 2) → r ≡ decode b .distance p q
-  unfolding viewOf placesOf kind1 fieldWidth bytesBefore entryBytes decodeBy decode
+  unfolding viewOf placesOf layoutOf kind1 fieldWidth bytesBefore entryBytes decodeBy decode
   distance-is r e =
-      at-place distancesBody 0 (p * decode b .points + q) b (v .at .distances) r (ap (λ (x : View). x .at .distances) (h .is))
+      at-place (layoutOf b) distancesBody 0 (p * decode b .points + q) b (v .at .distances) r (ap (λ (x : View). x .at .distances) (h .is))
       (e ∙ ap (λ (n : ℕ). numberAt 2 b (v .at .distances + (p * n + q) * 2)) (ap (λ (x : View). x .points) (h .is)) ∙ ap (numberAt 2 b) (sym (add-zero _)))
 
   -- counted from where the distances from p begin

@@ -3,7 +3,7 @@ use mathlib.Core.Path.{_≡_}
 use mathlib.Core.List.{List}
 use Prim.Native.Nat.{ℕ, _+_, _*_}
 use lib.ListN.{length}
-use Rattle.model.specs.SheetLayout.{distancesBody, bodies, kind1, entries, bodyAt, decode}
+use Rattle.model.specs.SheetLayout.{distancesBody, bodies, entries, bodyAt, layoutOf, decode}
 use Rattle.field.specs.Places.{placesOf}
 use Rattle.view.specs.declared.View.{View}
 
@@ -28,4 +28,4 @@ distancesAt v p = v .at .distances + p * v .points * 2
 pub record Viewed (b : List ℕ) (v : View) : Type 0 where
   pub is : v ≡ viewOf b
   pub square : entries b distancesBody ≡ decode b .points * decode b .points
-  pub ends : length b ≡ bodyAt kind1 b bodies
+  pub ends : length b ≡ bodyAt (layoutOf b) b bodies

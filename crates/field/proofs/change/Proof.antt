@@ -1,7 +1,7 @@
 -- The only field of body 0, whose place no count moves, in two's complement. Assumes nothing.
 use mathlib.Core.Path.{refl, ap, _∙_}
 use Rattle.model.specs.Bytes.{signed}
-use Rattle.model.specs.SheetLayout.{tasksBody, lineAt, kind1, fieldWidth, bytesBefore, entryBytes, decodeBy, decode}
+use Rattle.model.specs.SheetLayout.{tasksBody, kind1, fieldWidth, bytesBefore, entryBytes, lineAt, decodeBy, layoutOf, decode}
 use mir.Syntax.{w16}
 use mir.ValLaws.{toZ-ofZ}
 use Rattle.field.proofs.Fields.{at-place}
@@ -16,11 +16,11 @@ to-i16-requires : tie.Need-to-i16-requires
 to-i16-requires c κs = search needs
 
 returns : tie.Need-returns
-unfolding lineAt kind1 fieldWidth bytesBefore entryBytes decodeBy decode
+unfolding lineAt layoutOf kind1 fieldWidth bytesBefore entryBytes decodeBy decode
 returns c =
     toZ-ofZ w16 _ (record { sfits = c .to-i16 .ok })
     ∙ c .to-i16 .ensures
-    ∙ ap (signed 2) (at-place tasksBody 0 (c .before .before .before .args .t) _ _ _ refl (c .before .field2 .ensures))
+    ∙ ap (signed 2) (at-place kind1 tasksBody 0 (c .before .before .before .args .t) _ _ _ refl (c .before .field2 .ensures))
 
 pub change-spec : {M : Type 1} → statement M
 change-spec = tie.close (tie.spec field2-requires to-i16-requires returns)

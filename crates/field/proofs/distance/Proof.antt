@@ -4,7 +4,7 @@ use Prim.Native.Nat.{ℕ, _+_, _*_, _^_, _<_}
 use native.Mathlib.Omega.{arith}
 use native.Mathlib.Nat.{add-zero}
 use Rattle.model.specs.Bytes.{numberAt}
-use Rattle.model.specs.SheetLayout.{distancesBody, kind1, fieldWidth, bytesBefore, entryBytes, fieldAt, decodeBy, decode}
+use Rattle.model.specs.SheetLayout.{distancesBody, kind1, fieldWidth, bytesBefore, entryBytes, fieldAt, decodeBy, layoutOf, decode}
 use Rattle.field.specs.declared.Places.{Places}
 use Rattle.field.specs.Places.{placesOf}
 use Rattle.field.proofs.Fields.{product-lt, at-place}
@@ -49,14 +49,14 @@ cast-result : tie.Need-cast-result
 cast-result c = search needs
 
 returns : tie.Need-returns
-unfolding placesOf kind1 fieldWidth bytesBefore entryBytes decodeBy decode
+unfolding placesOf layoutOf kind1 fieldWidth bytesBefore entryBytes decodeBy decode
 returns c =
     let a = c .before .before .before .before .before .args in
     let b = a .s .now in
     let at = c .before .before .before .of .result .distances in
     let e = a .p * c .before .points .result + a .q in
-    at-place distancesBody 0 e b at _ (ap (λ (p : Places). p .distances) (c .before .before .before .of .ensures)) (c .read-u16 .ensures ∙ ap (numberAt 2 b) (sym (add-zero (at + e * 2))))
-    ∙ ap (λ (n : ℕ). fieldAt kind1 b distancesBody 0 (a .p * n + a .q)) (c .before .points .ensures)
+    at-place kind1 distancesBody 0 e b at _ (ap (λ (p : Places). p .distances) (c .before .before .before .of .ensures)) (c .read-u16 .ensures ∙ ap (numberAt 2 b) (sym (add-zero (at + e * 2))))
+    ∙ ap (λ (n : ℕ). fieldAt (layoutOf b) b distancesBody 0 (a .p * n + a .q)) (c .before .points .ensures)
 
 pub distance-spec : {M : Type 1} → statement M
 distance-spec =

@@ -1,6 +1,6 @@
 -- Field 0 of the starts, counted from 0. Assumes nothing.
 use mathlib.Core.Path.{ap}
-use Rattle.model.specs.SheetLayout.{startsBody, kind1, fieldWidth, bytesBefore, entryBytes, decodeBy, decode}
+use Rattle.model.specs.SheetLayout.{startsBody, kind1, fieldWidth, bytesBefore, entryBytes, decodeBy, layoutOf, decode}
 use Rattle.field.specs.declared.Places.{Places}
 use Rattle.field.specs.Places.{placesOf}
 use Rattle.field.proofs.Fields.{at-place}
@@ -15,8 +15,8 @@ field2-requires : tie.Need-field2-requires
 field2-requires c κs = search needs
 
 returns : tie.Need-returns
-unfolding placesOf kind1 fieldWidth bytesBefore entryBytes decodeBy decode
-returns c = at-place startsBody 0 (c .before .before .before .args .i) _ _ _ (ap (λ (p : Places). p .starts) (c .before .of .ensures)) (c .field2 .ensures)
+unfolding placesOf layoutOf kind1 fieldWidth bytesBefore entryBytes decodeBy decode
+returns c = at-place kind1 startsBody 0 (c .before .before .before .args .i) _ _ _ (ap (λ (p : Places). p .starts) (c .before .of .ensures)) (c .field2 .ensures)
 
 pub start-point-spec : {M : Type 1} → statement M
 start-point-spec = tie.close (tie.spec of-requires field2-requires returns)

@@ -6,7 +6,7 @@ use native.Mathlib.Omega.{arith}
 use borrow.Author.Needs.{needs}
 use lib.ListN.{length, getD}
 use Rattle.model.specs.Cost.{charges}
-use Rattle.model.specs.Plans.{firstDoors}
+use Rattle.model.specs.Method.{firstDoors}
 use Rattle.model.specs.SheetLayout.{maxDoors, decode}
 use Rattle.model.proofs.Folds.{mapBelow-at}
 use Rattle.gather.specs.Gathering.{partOf}

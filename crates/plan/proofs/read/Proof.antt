@@ -3,7 +3,7 @@ use mathlib.Core.Path.{_≡_, refl, sym, _∙_}
 use mathlib.Core.Bool.{false}
 use native.Mathlib.Omega.{arith}
 use lib.ListN.{length}
-use Rattle.model.specs.PlanLayout.{wrongTasks, readPlan}
+use Rattle.model.specs.PlanLayout.{wrongTasks, readTests, readPlan}
 use Rattle.model.proofs.PlanBytes.{fitting}
 use borrow.Author.Needs.{needs}
 use Rattle.plan.proofs.read.Statement.{statement}
@@ -17,7 +17,7 @@ right : (c : tie.Else1) → wrongTasks (c .before .before .before .before .args 
 right c = sym (c .before .wrong-tasks .ensures) ∙ c .if1 .left
 
 returns : tie.Need-returns
-unfolding readPlan
+unfolding readPlan readTests
 returns c = rw (sym (c .before .wrong-tasks .ensures) ∙ c .if1 .taken) (refl, (refl, (refl, refl)))
 
 cast-tasks : tie.Need-cast-tasks
@@ -27,7 +27,7 @@ ill-formed-requires : tie.Need-ill-formed-requires
 ill-formed-requires c κs = search needs
 
 returns-2 : tie.Need-returns-2
-unfolding readPlan
+unfolding readPlan readTests
 returns-2 c = rw (right (c .before .before), sym (c .before .ill-formed .ensures) ∙ c .if2 .taken) (refl, (refl, (refl, refl)))
 
 start-in-requires : tie.Need-start-in-requires
@@ -43,7 +43,7 @@ same-length : tie.Need-same-length
 same-length c = search needs
 
 returns-3 : tie.Need-returns-3
-unfolding readPlan
+unfolding readPlan readTests
 returns-3 c =
     let e2 = c .before .before .before .before .before .before in
     rw (right (e2 .before .before), sym (e2 .before .ill-formed .ensures) ∙ e2 .if2 .left)

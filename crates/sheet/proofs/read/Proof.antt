@@ -1,19 +1,18 @@
 -- Each test that did not apply is one of the definition's chain, and the first that applies is its answer. Twelve tasks at most, which 14 and 17 ask for, is what 12 has tested;
 -- 17 is decided by striking off because 14 has tested the pairs. Assumes nothing.
 use mathlib.Core.Path.{_≡_, sym, ap, ap₂, _∙_}
-use mathlib.Core.Bool.{Bool, false, not, _||_}
+use mathlib.Core.Bool.{Bool, false, not}
 use mathlib.Core.List.{List}
 use Prim.Native.Nat.{ℕ, _≤_}
 use lib.Dec.{eqb}
-use Rattle.model.specs.Folds.{anyBelow}
-use Rattle.model.specs.TaskList.{maxListed, fullOf}
-use Rattle.model.specs.Orders.{noOrder, strikeOff}
+use Rattle.model.specs.Method.{maxListed, strikeOff, somethingLeft}
+use Rattle.model.specs.Orders.{noOrder}
 use Rattle.model.specs.Answer.{Answer, accepted}
-use Rattle.model.specs.SheetLayout.{bodies, kind1, decode}
-use Rattle.model.specs.Faults.{tooShort, wrongKind, wrongEntries, wrongLine, wrongLength, outOfRange, tooLight, unlessFault, Counts, readSheet}
-use Rattle.model.proofs.Limits.{entries-within, counts-within, tasks-listed}
+use Rattle.model.specs.SheetLayout.{layoutOf, decode}
+use Rattle.model.specs.Faults.{tooShort, wrongKind, someWrongEntries, wrongPlaces, outOfRange, tooLight, sheetTests, unlessFault, Counts, readSheet}
+use Rattle.model.proofs.Entries.{entries-within, tasks-listed, counts-within}
 use Rattle.model.proofs.Ranges.{in-range}
-use Rattle.model.proofs.Reading.{Passed, Reads, passed-then, light-then, reads-then}
+use Rattle.model.proofs.Reading.{Cleared, Reads, passed-then, light-then, reads-then}
 use Rattle.model.proofs.NoOrder.{struck-off}
 use Rattle.model.proofs.Masks.{full-of}
 use borrow.Author.Needs.{needs}
@@ -43,22 +42,22 @@ bytes6 c = bytes5 (c .before .before .before)
 long : (c : tie.Else1) → tooShort (bytes1 c) ≡ false
 long c = sym (c .before .too-short .ensures) ∙ c .if1 .left
 
-kind : (c : tie.Else2) → wrongKind kind1 (bytes2 c) ≡ false
+kind : (c : tie.Else2) → wrongKind (layoutOf (bytes2 c)) (bytes2 c) ≡ false
 kind c = sym (c .before .wrong-kind .ensures) ∙ c .if2 .left
 
-counts : (c : tie.Else3) → anyBelow bodies (wrongEntries kind1 (bytes3 c)) ≡ false
+counts : (c : tie.Else3) → someWrongEntries (layoutOf (bytes3 c)) (bytes3 c) ≡ false
 counts c = sym (c .before .some-wrong-entries .ensures) ∙ c .if3 .left
 
 few : (c : tie.Else3) → decode (bytes3 c) .tasks ≤ maxListed
-few c = tasks-listed _ (counts-within (bytes3 c) (entries-within kind1 (bytes3 c) (counts c)) .tasks)
+few c = tasks-listed _ (counts-within (bytes3 c) (entries-within (layoutOf (bytes3 c)) (bytes3 c) (counts c)) .tasks)
 
-places : (c : tie.Else4) → (anyBelow bodies (wrongLine kind1 (bytes4 c)) || wrongLength kind1 (bytes4 c)) ≡ false
+places : (c : tie.Else4) → wrongPlaces (layoutOf (bytes4 c)) (bytes4 c) ≡ false
 places c = sym (c .before .wrong-places .ensures) ∙ c .if4 .left
 
-ranges : (c : tie.Else5) → outOfRange kind1 (decode (bytes5 c)) ≡ false
+ranges : (c : tie.Else5) → outOfRange (layoutOf (bytes5 c)) (decode (bytes5 c)) ≡ false
 ranges c = sym (c .before .out-of-range .ensures) ∙ c .if5 .left
 
-passed : (c : tie.Else6) → Passed (bytes6 c)
+passed : (c : tie.Else6) → Cleared (bytes6 c)
 passed c =
     let e5 = c .before .before .before in
     let e4 = e5 .before .before in
@@ -77,11 +76,12 @@ light : (c : tie.Else7) → tooLight (decode (bytes6 (c .before))) ≡ false
 light c = sym (c .before .before .too-light .ensures) ∙ c .if7 .left
 
 -- 17 is what striking off leaves
-order-left : (e6 : tie.Else6) (t : Bool) → t ≡ not (eqb (strikeOff (decode (bytes6 e6)) (decode (bytes6 e6) .tasks) (fullOf (decode (bytes6 e6) .tasks))) 0) → noOrder (decode (bytes6 e6)) ≡ t
+order-left : (e6 : tie.Else6) (t : Bool) → t ≡ somethingLeft (decode (bytes6 e6)) → noOrder (decode (bytes6 e6)) ≡ t
+unfolding somethingLeft
 order-left e6 t h =
     let e5 = e6 .before .before .before in
     let S = decode (bytes6 e6) in
-    struck-off S (in-range kind1 S (ranges e5)) ∙ sym (h ∙ ap (λ (K : ℕ). not (eqb (strikeOff S (S .tasks) K) 0)) (full-of (S .tasks) (few (e5 .before .before .before .before))))
+    struck-off S (in-range (layoutOf (bytes6 e6)) S (ranges e5)) ∙ sym (h ∙ ap (λ (K : ℕ). not (eqb (strikeOff S (S .tasks) K) 0)) (full-of (S .tasks) (few (e5 .before .before .before .before))))
 
 -- what a sheet that reads is answered with
 abbrev answer : ℕ → ℕ → Answer Counts
@@ -93,21 +93,21 @@ too-short-requires : tie.Need-too-short-requires
 too-short-requires c κs = search needs
 
 returns : tie.Need-returns
-unfolding unlessFault readSheet
+unfolding sheetTests unlessFault readSheet
 returns c = rw (sym (c .before .too-short .ensures) ∙ c .if1 .taken)
 
 wrong-kind-requires : tie.Need-wrong-kind-requires
 wrong-kind-requires c κs = search needs
 
 returns-2 : tie.Need-returns-2
-unfolding unlessFault readSheet
+unfolding sheetTests unlessFault readSheet
 returns-2 c = rw (long (c .before .before), sym (c .before .wrong-kind .ensures) ∙ c .if2 .taken)
 
 some-wrong-entries-requires : tie.Need-some-wrong-entries-requires
 some-wrong-entries-requires c κs = search needs
 
 returns-3 : tie.Need-returns-3
-unfolding unlessFault readSheet
+unfolding sheetTests unlessFault readSheet
 returns-3 c =
     let e2 = c .before .before in
     rw (long (e2 .before .before), kind e2, sym (c .before .some-wrong-entries .ensures) ∙ c .if3 .taken)
@@ -116,7 +116,7 @@ wrong-places-requires : tie.Need-wrong-places-requires
 wrong-places-requires c κs = search needs
 
 returns-4 : tie.Need-returns-4
-unfolding unlessFault readSheet
+unfolding sheetTests unlessFault readSheet
 returns-4 c =
     let e3 = c .before .before in
     let e2 = e3 .before .before in
@@ -126,7 +126,7 @@ out-of-range-requires : tie.Need-out-of-range-requires
 out-of-range-requires c κs = few (c .before .before)
 
 returns-5 : tie.Need-returns-5
-unfolding unlessFault readSheet
+unfolding sheetTests unlessFault readSheet
 returns-5 c =
     let e4 = c .before .before in
     let e3 = e4 .before .before in
@@ -140,7 +140,7 @@ too-light-requires : tie.Need-too-light-requires
 too-light-requires c κs = search needs
 
 returns-6 : tie.Need-returns-6
-unfolding unlessFault readSheet
+unfolding sheetTests unlessFault readSheet
 returns-6 c =
     let e5 = c .before .before .before in
     let e4 = e5 .before .before in
@@ -149,14 +149,14 @@ returns-6 c =
     rw (long (e2 .before .before), kind e2, counts e3, places e4, ranges e5, sym (c .before .before .some-lacks-door .ensures) ∙ c .if6 .taken)
 
 returns-7 : tie.Need-returns-7
-unfolding unlessFault readSheet
+unfolding sheetTests unlessFault readSheet
 returns-7 c = sym (passed-then (bytes6 (c .before)) _ (passed (c .before)) ∙ rw (sym (c .before .before .too-light .ensures) ∙ c .if7 .taken))
 
 something-left-requires : tie.Need-something-left-requires
 something-left-requires c κs = search needs
 
 returns-8 : tie.Need-returns-8
-unfolding unlessFault readSheet
+unfolding sheetTests unlessFault readSheet
 returns-8 c =
     let e7 = c .before .before in
     sym (light-then (bytes6 (e7 .before)) _ (passed (e7 .before)) (light e7) ∙ rw (order-left (e7 .before) _ (c .before .something-left .ensures) ∙ c .if8 .taken))

@@ -1,19 +1,19 @@
 -- Once the lists below k are done the cells are `cellsBelow`: a list that is essential has its row written, and any other is passed over. Assumes nothing.
 use mathlib.Core.Path.{_≡_, sym, ap, _∙_}
 use mathlib.Core.Logic.{⊎-elim}
-use Prim.Native.Nat.{ℕ, _-_, _*_, _+_, _^_, _≤_, _<_}
+use Prim.Native.Nat.{ℕ, _+_, _-_, _*_, _^_, _≤_, _<_}
 use native.Mathlib.Omega.{arith}
-use native.Mathlib.Nat.{mul-le-mul-right, one-mul}
+use native.Mathlib.Nat.{one-mul, mul-le-mul-right}
 use mathlib.Core.List.{_++_}
 use lib.ListN.{length, drop}
 use lib.Pow.{pow-pos}
 use lib.Seq.{length-take-le}
-use Rattle.model.specs.TaskList.{listsOf}
+use Rattle.model.specs.Method.{listsOf}
 use Rattle.model.specs.SheetLayout.{decode}
 use Rattle.model.specs.Planning.{cellsNeeded}
 use Rattle.model.proofs.Masks.{lists-of}
-use Rattle.model.proofs.Limits.{tasks-listed}
-use Rattle.view.proofs.Counted.{points-are, tasks-are}
+use Rattle.model.proofs.Entries.{tasks-listed}
+use Rattle.view.proofs.Counted.{tasks-are, points-are}
 use Rattle.table.specs.Cells.{cellsBelow}
 use Rattle.table.proofs.Filling.{length-done, all-done, ends-done, ends-stay, as-many, from-ends, known-so, room-so, row-next, pass-next}
 use borrow.Author.Needs.{needs}

@@ -6,7 +6,8 @@ use native.Mathlib.Omega.{arith}
 use lib.ListN.{length, take, length-map}
 use lib.Pow.{areBytes}
 use Rattle.model.specs.SheetLayout.{decode}
-use Rattle.model.specs.Plans.{firstDoors, costToGo}
+use Rattle.model.specs.Plans.{costToGo}
+use Rattle.model.specs.Method.{firstDoors}
 use Rattle.gather.specs.Gathering.{partOf}
 use Rattle.model.proofs.Elements.{are-bytes}
 use Rattle.row.specs.Leasts.{Gathered}

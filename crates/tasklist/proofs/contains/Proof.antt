@@ -4,7 +4,7 @@ use Prim.Native.Nat.{ℕ}
 use native.Mathlib.Omega.{arith}
 use lib.Dec.{eqb}
 use borrow.Author.Needs.{needs}
-use Rattle.model.specs.TaskList.{maskBits}
+use Rattle.model.specs.Method.{maskBits}
 use Rattle.tasklist.proofs.Shifts.{bit-shifted, not-listed}
 use Rattle.tasklist.proofs.contains.Statement.{statement}
 use Rattle.tasklist.proofs.contains.Tie as tie

@@ -3,7 +3,7 @@ use Prim.Native.Nat.{suc, _<_}
 use native.Mathlib.Omega.{arith}
 use borrow.Author.Needs.{needs}
 use borrow.Author.Tests.{lt-leb}
-use Rattle.model.specs.TaskList.{maxListed, listsOf}
+use Rattle.model.specs.Method.{maxListed, listsOf}
 use Rattle.tasklist.proofs.Table.{values}
 use Rattle.tasklist.proofs.lists.Statement.{statement}
 use Rattle.tasklist.proofs.lists.Tie as tie

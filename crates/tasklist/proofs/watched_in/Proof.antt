@@ -1,6 +1,6 @@
 -- `tasklist::watched_in` meets its contract: the ones of the masked list are its watched tasks. Assumes nothing.
 use native.Mathlib.Omega.{arith}
-use Rattle.model.specs.TaskList.{maskBits}
+use Rattle.model.specs.Method.{maskBits}
 use Rattle.tasklist.proofs.Shifts.{counted-in}
 use Rattle.tasklist.proofs.watched_in.Statement.{statement}
 use Rattle.tasklist.proofs.watched_in.Tie as tie

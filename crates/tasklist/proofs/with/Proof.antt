@@ -1,7 +1,7 @@
 -- `tasklist::with` meets its contract: below the width the bit is joined, and from it on no task has a bit. Assumes nothing.
 use native.Mathlib.Omega.{arith}
 use borrow.Author.Needs.{needs}
-use Rattle.model.specs.TaskList.{maskBits}
+use Rattle.model.specs.Method.{maskBits}
 use Rattle.tasklist.proofs.Shifts.{joined, not-joined}
 use Rattle.tasklist.proofs.with.Statement.{statement}
 use Rattle.tasklist.proofs.with.Tie as tie

@@ -1,7 +1,7 @@
 -- `tasklist::without` meets its contract: below the width the bit is struck off, and from it on no task is in the list. Assumes nothing.
 use native.Mathlib.Omega.{arith}
 use borrow.Author.Needs.{needs}
-use Rattle.model.specs.TaskList.{maskBits}
+use Rattle.model.specs.Method.{maskBits}
 use Rattle.tasklist.proofs.Shifts.{struck, not-struck}
 use Rattle.tasklist.proofs.without.Statement.{statement}
 use Rattle.tasklist.proofs.without.Tie as tie

@@ -1,21 +1,20 @@
 -- Each test that did not apply is one of the definition's chain, and the first that applies is its answer. The route can be costed because its doors are the sheet's.
 -- Assumes nothing.
 use mathlib.Core.Path.{_≡_, sym, _∙_}
-use mathlib.Core.Bool.{false, not}
+use mathlib.Core.Bool.{false}
 use mathlib.Core.List.{List}
 use Prim.Native.Nat.{ℕ, _≤_}
 use native.Mathlib.Omega.{arith}
 use lib.ListN.{length, take, length-map}
 use lib.Seq.{length-take-le}
 use borrow.Author.Needs.{needs}
-use Rattle.model.specs.Orders.{keepsEveryPair}
 use Rattle.model.specs.SheetLayout.{decode}
 use Rattle.model.specs.PlanLayout.{maxPlanDoors}
 use Rattle.model.specs.PlanInHand.{PlanInHand}
-use Rattle.model.specs.Validating.{notInSheet, doneTwice}
+use Rattle.model.specs.Validating.{notInSheet, doneTwice, breaksPair}
 use Rattle.plan.specs.Answers.{handOf}
 use Rattle.model.proofs.Calls.{reads-sheet}
-use Rattle.validate.proofs.Judging.{few-tasks, ill-formed, Held, hold, not-in-sheet, done-twice, wrong-order, wrong-cost, right-cost, can-cost}
+use Rattle.validate.proofs.Judging.{few-tasks, ill-formed, Held, hold, not-in-sheet, done-twice, can-cost, wrong-order, wrong-cost, right-cost}
 use Rattle.validate.proofs.validate_plan.Statement.{statement}
 use Rattle.validate.proofs.validate_plan.Tie as tie
 
@@ -72,7 +71,7 @@ known c = sym (c .before .not-in-sheet .ensures) ∙ c .if2 .left
 once : (c : tie.Else3) → doneTwice (decode (sheet (at3 c))) (tasks (at3 c)) ≡ false
 once c = sym (c .before .done-twice .ensures) ∙ c .if3 .left
 
-ordered : (c : tie.Else4) → not (keepsEveryPair (decode (sheet (at4 c))) (tasks (at4 c))) ≡ false
+ordered : (c : tie.Else4) → breaksPair (decode (sheet (at4 c))) (tasks (at4 c)) ≡ false
 ordered c = sym (c .before .breaks-pair .ensures) ∙ c .if4 .left
 
 -- ---- the answers

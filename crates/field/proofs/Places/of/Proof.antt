@@ -1,5 +1,5 @@
 -- Each body begins behind the one before it, by the numbers of entries. Assumes nothing.
-use Rattle.model.specs.SheetLayout.{lineAt, kind1, fieldWidth, bytesBefore, entryBytes, decodeBy, decode}
+use Rattle.model.specs.SheetLayout.{kind1, fieldWidth, bytesBefore, entryBytes, lineAt, decodeBy, layoutOf, decode}
 use Rattle.field.specs.Places.{placesOf}
 use borrow.Author.Needs.{needs}
 use Rattle.field.proofs.Places.of.Statement.{statement}
@@ -78,7 +78,7 @@ add-distances-at : tie.Need-add-distances-at
 add-distances-at c = search needs
 
 returns : tie.Need-returns
-unfolding placesOf lineAt kind1 fieldWidth bytesBefore entryBytes decodeBy decode
+unfolding placesOf lineAt layoutOf kind1 fieldWidth bytesBefore entryBytes decodeBy decode
 returns c =
     rw (
       c .points .ensures,

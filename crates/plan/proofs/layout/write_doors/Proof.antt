@@ -3,8 +3,8 @@ use Prim.Native.Nat.{_-_}
 use native.Mathlib.Omega.{arith}
 use lib.ListN.{length, getD}
 use Rattle.model.specs.SheetLayout.{lineAt}
-use Rattle.model.specs.PlanLayout.{planStartAt, planDoorsAt}
-use Rattle.model.proofs.Rows.{Written, none-written, one-written, same-room, all-written, row-too-long}
+use Rattle.model.specs.PlanLayout.{planStartAt, planDoorsAt, doorBytes}
+use Rattle.model.proofs.Rows.{row-too-long, Written, none-written, one-written, same-room, all-written}
 use borrow.Author.Needs.{needs}
 use Rattle.plan.proofs.layout.write_doors.Statement.{statement}
 use Rattle.plan.proofs.layout.write_doors.Tie as tie
@@ -16,11 +16,11 @@ abbrev μ-loop : tie.MeasureT-loop
 μ-loop b₀ doors n room i₀ b i = n - i
 
 returns : tie.Need-returns Inv-loop μ-loop
-unfolding planDoorsAt planStartAt lineAt
+unfolding planDoorsAt planStartAt lineAt doorBytes
 returns c = let a = c .before .before .before .args in row-too-long 2 (length (a .doors .now)) planDoorsAt (λ i. getD (a .doors .now) i 0) (a .b .now) (omega arith)
 
 returns-2 : tie.Need-returns-2 Inv-loop μ-loop
-unfolding planDoorsAt planStartAt lineAt
+unfolding planDoorsAt planStartAt lineAt doorBytes
 returns-2 c = let a = c .before .before .before .before .args in row-too-long 2 (length (a .doors .now)) planDoorsAt (λ i. getD (a .doors .now) i 0) (a .b .now) (omega arith)
 
 loop-holds : tie.Need-loop-holds Inv-loop μ-loop
@@ -56,6 +56,7 @@ same-length : tie.Need-same-length Inv-loop μ-loop
 same-length c = same-room (c .before .loop .inv)
 
 returns-3 : tie.Need-returns-3 Inv-loop μ-loop
+unfolding doorBytes
 returns-3 c = all-written (c .before .loop .inv) (omega arith)
 
 pub write-doors-spec : {M : Type 1} → statement M

@@ -4,11 +4,11 @@ use Prim.Native.Nat.{_-_}
 use native.Mathlib.Omega.{arith}
 use borrow.Author.Tests.{eq-eqb}
 use Rattle.model.specs.SheetLayout.{lineAt}
-use Rattle.model.specs.PlanLayout.{planStartAt}
+use Rattle.model.specs.PlanLayout.{planStartAt, wrongHead}
 use Rattle.model.proofs.Elements.{are-bytes}
 use Rattle.model.proofs.Searches.{PassedBelow, none-tried, passed-on}
 use Rattle.plan.specs.Heads.{headCount}
-use Rattle.plan.proofs.Heads.{sameAt, Comparable, one-differs, none-differs, too-short}
+use Rattle.plan.proofs.Heads.{too-short, sameAt, Comparable, one-differs, none-differs}
 use borrow.Author.Needs.{needs}
 use Rattle.plan.proofs.layout.wrong_head.Statement.{statement}
 use Rattle.plan.proofs.layout.wrong_head.Tie as tie
@@ -20,7 +20,7 @@ abbrev μ-loop : tie.MeasureT-loop
 μ-loop n q numbers k₀ k = headCount - k
 
 returns : tie.Need-returns Inv-loop μ-loop
-unfolding planStartAt lineAt
+unfolding planStartAt lineAt wrongHead
 returns c = let a = c .before .before .args in too-short (a .n) (a .q .now) (c .if1 .taken)
 
 head-requires : tie.Need-head-requires Inv-loop μ-loop
@@ -52,6 +52,7 @@ comparable c = record {
 }
 
 returns-2 : tie.Need-returns-2 Inv-loop μ-loop
+unfolding wrongHead
 returns-2 c = one-differs (comparable (c .before .before .before .before)) (omega arith) (c .before .read-u16 .ensures) (c .if2 .taken)
 
 add-k : tie.Need-add-k Inv-loop μ-loop
@@ -64,6 +65,7 @@ loop-again : tie.Need-loop-again Inv-loop μ-loop
 loop-again c = passed-on (c .before .before .before .loop .inv) (omega arith) (eq-eqb _ _ (sym (c .before .read-u16 .ensures) ∙ c .if2 .left))
 
 returns-3 : tie.Need-returns-3 Inv-loop μ-loop
+unfolding wrongHead
 returns-3 c = none-differs (comparable (c .before .before)) (c .before .loop .inv) (omega arith)
 
 pub wrong-head-spec : {M : Type 1} → statement M

@@ -6,13 +6,13 @@ use mathlib.Core.Bool.{Bool, true, false, not}
 use Prim.Native.Nat.{ℕ, _+_, _-_, _≤_, _<_}
 use native.Mathlib.Omega.{arith}
 use lib.Dec.{eqb, ltb}
-use borrow.Author.Tests.{lt-ltb, le-ltb, eq-eqb, ne-eqb}
+use borrow.Author.Tests.{eq-eqb, ne-eqb, lt-ltb, le-ltb}
 use borrow.Author.Needs.{needs}
 use Rattle.model.specs.Folds.{allBelow, anyBelow}
 use Rattle.model.specs.Sheet.{Sheet}
 use Rattle.model.specs.SheetLayout.{decode}
-use Rattle.model.specs.Faults.{lacksDoor}
-use Rattle.model.proofs.Tests.{all-false, all-next, any-true, any-next}
+use Rattle.model.specs.Faults.{lacksDoor, someLacksDoor}
+use Rattle.model.proofs.Tests.{all-false, any-true, any-next, all-next}
 use Rattle.sheet.proofs.door.some_lacks_door.Statement.{statement}
 use Rattle.sheet.proofs.door.some_lacks_door.Tie as tie
 
@@ -88,6 +88,7 @@ tasks-again c =
     )
 
 returns : tie.Need-returns Inv-loop μ-loop Inv-tasks μ-tasks
+unfolding someLacksDoor
 returns c =
     let o = c .before .tasks in
     ⊎-elim

@@ -4,8 +4,8 @@ use Prim.Native.Nat.{_-_, _*_, _≤_}
 use native.Mathlib.Nat.{mul-le-mul-right}
 use native.Mathlib.Omega.{arith}
 use Rattle.model.specs.Folds.{anyBelow}
-use Rattle.model.specs.SheetLayout.{distancesBody, bodies, kind1}
-use Rattle.model.specs.Faults.{wrongEntries}
+use Rattle.model.specs.SheetLayout.{distancesBody, bodies, layoutOf}
+use Rattle.model.specs.Faults.{wrongEntries, someWrongEntries}
 use Rattle.model.proofs.Tests.{or-last, any-true}
 use Rattle.model.proofs.Searches.{Searched, next}
 use Rattle.sheet.proofs.Places.{all-distances}
@@ -14,7 +14,7 @@ use Rattle.sheet.proofs.layout.some_wrong_entries.Statement.{statement}
 use Rattle.sheet.proofs.layout.some_wrong_entries.Tie as tie
 
 abbrev Inv-loop : tie.InvT-loop
-Inv-loop s i₀ i = Searched distancesBody (wrongEntries kind1 s) i
+Inv-loop s i₀ i = Searched distancesBody (wrongEntries (layoutOf s) s) i
 
 abbrev μ-loop : tie.MeasureT-loop
 μ-loop s i₀ i = distancesBody - i
@@ -26,7 +26,8 @@ wrong-entries-requires : tie.Need-wrong-entries-requires Inv-loop μ-loop
 wrong-entries-requires c κs = search needs
 
 returns : tie.Need-returns Inv-loop μ-loop
-returns c = sym (any-true bodies (wrongEntries kind1 _) (c .before .before .before .loop .i) (omega arith) (sym (c .before .wrong-entries .ensures) ∙ c .if1 .taken))
+unfolding someWrongEntries
+returns c = sym (any-true bodies (wrongEntries (layoutOf _) _) (c .before .before .before .loop .i) (omega arith) (sym (c .before .wrong-entries .ensures) ∙ c .if1 .taken))
 
 add-i : tie.Need-add-i Inv-loop μ-loop
 add-i c = search needs
@@ -53,11 +54,12 @@ mul-result : tie.Need-mul-result Inv-loop μ-loop
 mul-result c = let p = c .before .entries .result in let m : p * p ≤ 65535 * p = mul-le-mul-right p (omega arith) in omega arith
 
 returns-2 : tie.Need-returns-2 Inv-loop μ-loop
+unfolding someWrongEntries
 returns-2 c =
     let b = c .before .before .before .before .before .args .s .now in
     let l = c .before .before .before .loop in
     let e : l .i ≡ distancesBody = omega arith in
-    or-last (anyBelow distancesBody (wrongEntries kind1 b)) (wrongEntries kind1 b distancesBody) _ (rw e at (l .inv .none))
+    or-last (anyBelow distancesBody (wrongEntries (layoutOf b) b)) (wrongEntries (layoutOf b) b distancesBody) _ (rw e at (l .inv .none))
     (all-distances b _ _ (c .before .entries .ensures) (c .entries2 .ensures))
 
 pub some-wrong-entries-spec : {M : Type 1} → statement M

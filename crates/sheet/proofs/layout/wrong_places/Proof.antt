@@ -6,8 +6,8 @@ use lib.ListN.{length}
 use Prim.Native.Nat.{ℕ, _+_, _-_, _*_, _^_, _≤_, _<_}
 use native.Mathlib.Omega.{arith}
 use Rattle.model.specs.Folds.{anyBelow}
-use Rattle.model.specs.SheetLayout.{bodies, kind1, lineAt, bodyAt}
-use Rattle.model.specs.Faults.{wrongLine, wrongLength}
+use Rattle.model.specs.SheetLayout.{bodies, lineAt, bodyAt, layoutOf}
+use Rattle.model.specs.Faults.{wrongLine, wrongLength, wrongPlaces}
 use Rattle.model.proofs.Tests.{or-last, any-true}
 use Rattle.field.proofs.Fields.{product-lt}
 use Rattle.model.proofs.Searches.{Searched, next}
@@ -17,7 +17,7 @@ use Rattle.sheet.proofs.layout.wrong_places.Statement.{statement}
 use Rattle.sheet.proofs.layout.wrong_places.Tie as tie
 
 abbrev Inv-loop : tie.InvT-loop
-Inv-loop s at₀ i₀ at i = Searched bodies (wrongLine kind1 s) i × (at ≡ bodyAt kind1 s i) × (at ≤ 2 ^ 48 * (i + 1))
+Inv-loop s at₀ i₀ at i = Searched bodies (wrongLine (layoutOf s) s) i × (at ≡ bodyAt (layoutOf s) s i) × (at ≤ 2 ^ 48 * (i + 1))
 
 abbrev μ-loop : tie.MeasureT-loop
 μ-loop s at₀ i₀ at i = bodies - i
@@ -33,10 +33,11 @@ wrong-line-requires : tie.Need-wrong-line-requires Inv-loop μ-loop
 wrong-line-requires c κs = search needs
 
 returns : tie.Need-returns Inv-loop μ-loop
+unfolding wrongPlaces
 returns c =
     let b = c .before .before .before .before .before .args .s .now in
-    sym (ap (λ (t : Bool). t || wrongLength kind1 b)
-    (any-true bodies (wrongLine kind1 b) (c .before .before .before .loop .i) (omega arith) (sym (c .before .wrong-line .ensures) ∙ c .if1 .taken)))
+    sym (ap (λ (t : Bool). t || wrongLength (layoutOf b) b)
+    (any-true bodies (wrongLine (layoutOf b) b) (c .before .before .before .loop .i) (omega arith) (sym (c .before .wrong-line .ensures) ∙ c .if1 .taken)))
 
 entries-requires : tie.Need-entries-requires Inv-loop μ-loop
 entries-requires c κs = search needs
@@ -75,12 +76,12 @@ loop-again c =
     )
 
 returns-2 : tie.Need-returns-2 Inv-loop μ-loop
-unfolding wrongLength
+unfolding wrongPlaces wrongLength
 returns-2 c =
     let b = c .before .before .before .args .s .now in
     let l = c .before .loop in
     let e : l .i ≡ bodies = omega arith in
-    or-last (anyBelow bodies (wrongLine kind1 b)) (wrongLength kind1 b) _ (rw e at (l .inv .0 .none))
+    or-last (anyBelow bodies (wrongLine (layoutOf b) b)) (wrongLength (layoutOf b) b) _ (rw e at (l .inv .0 .none))
     (ap (λ (x : ℕ). not (eqb (length b) x)) (rw e at (l .inv .1)))
 
 pub wrong-places-spec : {M : Type 1} → statement M

@@ -5,9 +5,8 @@ use Prim.Native.Nat.{ℕ, _-_, _≤_}
 use native.Mathlib.Omega.{arith}
 use lib.Dec.{eqb}
 use borrow.Author.Needs.{needs}
-use Rattle.model.specs.TaskList.{fullOf}
+use Rattle.model.specs.Method.{fullOf, strikeOff, somethingLeft}
 use Rattle.model.specs.SheetLayout.{decode}
-use Rattle.model.specs.Orders.{strikeOff}
 use Rattle.sheet.proofs.Striking.{next-pass, empty-after}
 use Rattle.sheet.proofs.order.something_left.Statement.{statement}
 use Rattle.sheet.proofs.order.something_left.Tie as tie
@@ -28,6 +27,7 @@ loop-holds : tie.Need-loop-holds Inv-loop μ-loop
 loop-holds c = (omega arith, c .full .ensures ∙ ap fullOf (c .before .tasks .ensures))
 
 returns : tie.Need-returns Inv-loop μ-loop
+unfolding somethingLeft
 returns c =
     let s = c .before .before .before .before .before .before in
     let S = decode (s .args .s .now) in
@@ -50,6 +50,7 @@ loop-again c =
     (omega arith, next-pass _ _ (l .pass) (l .inv .1) (c .strike-pass .ensures))
 
 returns-2 : tie.Need-returns-2 Inv-loop μ-loop
+unfolding somethingLeft
 returns-2 c =
     let s = c .before .before .before .before .before in
     let S = decode (s .args .s .now) in

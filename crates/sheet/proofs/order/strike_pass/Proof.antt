@@ -4,7 +4,7 @@ use Prim.Native.Nat.{ℕ, _-_, _≤_}
 use native.Mathlib.Omega.{arith}
 use borrow.Author.Needs.{needs}
 use Rattle.model.specs.SheetLayout.{decode}
-use Rattle.model.specs.Orders.{strikeBelow}
+use Rattle.model.specs.Method.{strikeBelow}
 use Rattle.sheet.proofs.Striking.{next-task}
 use Rattle.sheet.proofs.order.strike_pass.Statement.{statement}
 use Rattle.sheet.proofs.order.strike_pass.Tie as tie

@@ -1,5 +1,5 @@
 -- The door, the watched list and the least count are held to their limits; the table gives the number of lists. Assumes nothing.
-use Rattle.model.specs.SheetLayout.{kind1}
+use Rattle.model.specs.SheetLayout.{kind1, layoutOf}
 use Rattle.model.specs.Faults.{badRule}
 use Rattle.model.proofs.Masks.{lists-of}
 use Rattle.model.proofs.Tests.{outside}
@@ -29,7 +29,7 @@ cast-result : tie.Need-cast-result
 cast-result c = search needs
 
 returns : tie.Need-returns
-unfolding badRule kind1
+unfolding badRule layoutOf kind1
 returns c =
     let l = c .before .before .before .before in
     rw (

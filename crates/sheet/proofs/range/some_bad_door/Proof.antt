@@ -1,8 +1,8 @@
 -- A search through the doors. Assumes nothing.
 use Prim.Native.Nat.{_-_}
 use Rattle.model.specs.SheetLayout.{decode}
-use Rattle.model.specs.Faults.{badDoor}
-use Rattle.model.proofs.Searches.{Searched, next, found, none-found}
+use Rattle.model.specs.Faults.{badDoor, someBadDoor}
+use Rattle.model.proofs.Searches.{Searched, next, none-found, found}
 use borrow.Author.Needs.{needs}
 use Rattle.sheet.proofs.range.some_bad_door.Statement.{statement}
 use Rattle.sheet.proofs.range.some_bad_door.Tie as tie
@@ -23,6 +23,7 @@ bad-door-requires : tie.Need-bad-door-requires Inv-loop μ-loop
 bad-door-requires c κs = search needs
 
 returns : tie.Need-returns Inv-loop μ-loop
+unfolding someBadDoor
 returns c = found _ (c .before .before .loop-test .taken) (c .before .before .before .before .doors .ensures) (c .before .bad-door .ensures) (c .if1 .taken)
 
 add-d : tie.Need-add-d Inv-loop μ-loop
@@ -35,6 +36,7 @@ loop-again : tie.Need-loop-again Inv-loop μ-loop
 loop-again c = next (c .before .before .before .loop .inv) (c .before .before .loop-test .taken) (c .before .bad-door .ensures) (c .if1 .left)
 
 returns-2 : tie.Need-returns-2 Inv-loop μ-loop
+unfolding someBadDoor
 returns-2 c = none-found (c .before .loop .inv) (c .loop-test .left) (c .before .before .doors .ensures)
 
 pub some-bad-door-spec : {M : Type 1} → statement M

@@ -1,8 +1,8 @@
 -- A search through the pairs. Assumes nothing.
 use Prim.Native.Nat.{_-_}
 use Rattle.model.specs.SheetLayout.{decode}
-use Rattle.model.specs.Faults.{badPair}
-use Rattle.model.proofs.Searches.{Searched, next, found, none-found}
+use Rattle.model.specs.Faults.{badPair, someBadPair}
+use Rattle.model.proofs.Searches.{Searched, next, none-found, found}
 use borrow.Author.Needs.{needs}
 use Rattle.sheet.proofs.range.some_bad_pair.Statement.{statement}
 use Rattle.sheet.proofs.range.some_bad_pair.Tie as tie
@@ -23,6 +23,7 @@ bad-pair-requires : tie.Need-bad-pair-requires Inv-loop μ-loop
 bad-pair-requires c κs = search needs
 
 returns : tie.Need-returns Inv-loop μ-loop
+unfolding someBadPair
 returns c = found _ (c .before .before .loop-test .taken) (c .before .before .before .before .pairs .ensures) (c .before .bad-pair .ensures) (c .if1 .taken)
 
 add-i : tie.Need-add-i Inv-loop μ-loop
@@ -35,6 +36,7 @@ loop-again : tie.Need-loop-again Inv-loop μ-loop
 loop-again c = next (c .before .before .before .loop .inv) (c .before .before .loop-test .taken) (c .before .bad-pair .ensures) (c .if1 .left)
 
 returns-2 : tie.Need-returns-2 Inv-loop μ-loop
+unfolding someBadPair
 returns-2 c = none-found (c .before .loop .inv) (c .loop-test .left) (c .before .before .pairs .ensures)
 
 pub some-bad-pair-spec : {M : Type 1} → statement M

@@ -1,14 +1,14 @@
 -- A search through the rules. Assumes nothing.
 use Prim.Native.Nat.{_-_}
-use Rattle.model.specs.SheetLayout.{kind1, decode}
-use Rattle.model.specs.Faults.{badRule}
-use Rattle.model.proofs.Searches.{Searched, next, found, none-found}
+use Rattle.model.specs.SheetLayout.{layoutOf, decode}
+use Rattle.model.specs.Faults.{badRule, someBadRule}
+use Rattle.model.proofs.Searches.{Searched, next, none-found, found}
 use borrow.Author.Needs.{needs}
 use Rattle.sheet.proofs.range.some_bad_rule.Statement.{statement}
 use Rattle.sheet.proofs.range.some_bad_rule.Tie as tie
 
 abbrev Inv-loop : tie.InvT-loop
-Inv-loop s rules i₀ i = Searched rules (badRule kind1 (decode s)) i
+Inv-loop s rules i₀ i = Searched rules (badRule (layoutOf s) (decode s)) i
 
 abbrev μ-loop : tie.MeasureT-loop
 μ-loop s rules i₀ i = rules - i
@@ -23,6 +23,7 @@ bad-rule-requires : tie.Need-bad-rule-requires Inv-loop μ-loop
 bad-rule-requires c κs = search needs
 
 returns : tie.Need-returns Inv-loop μ-loop
+unfolding someBadRule
 returns c = found _ (c .before .before .loop-test .taken) (c .before .before .before .before .rules .ensures) (c .before .bad-rule .ensures) (c .if1 .taken)
 
 add-i : tie.Need-add-i Inv-loop μ-loop
@@ -35,6 +36,7 @@ loop-again : tie.Need-loop-again Inv-loop μ-loop
 loop-again c = next (c .before .before .before .loop .inv) (c .before .before .loop-test .taken) (c .before .bad-rule .ensures) (c .if1 .left)
 
 returns-2 : tie.Need-returns-2 Inv-loop μ-loop
+unfolding someBadRule
 returns-2 c = none-found (c .before .loop .inv) (c .loop-test .left) (c .before .before .rules .ensures)
 
 pub some-bad-rule-spec : {M : Type 1} → statement M

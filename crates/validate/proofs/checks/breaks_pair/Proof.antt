@@ -11,6 +11,7 @@ use Rattle.model.specs.Folds.{indexOf}
 use Rattle.model.specs.Sheet.{Sheet}
 use Rattle.model.specs.SheetLayout.{decode}
 use Rattle.model.specs.Orders.{keepsPair, keepsEveryPair}
+use Rattle.model.specs.Validating.{breaksPair}
 use Rattle.model.proofs.Searches.{PassedBelow, none-tried, passed-on, all-passed, one-failed}
 use Rattle.validate.proofs.checks.breaks_pair.Statement.{statement}
 use Rattle.validate.proofs.checks.breaks_pair.Tie as tie
@@ -52,7 +53,7 @@ index-of-requires-2 : tie.Need-index-of-requires-2 Inv-loop μ-loop
 index-of-requires-2 c κs = search needs
 
 returns : tie.Need-returns Inv-loop μ-loop
-unfolding keepsEveryPair
+unfolding keepsEveryPair breaksPair
 returns c =
     let r = c .before .before in
     let l = r .before .before .before in
@@ -73,7 +74,7 @@ loop-again c =
     (kept _ _ _ (r .before .before .sender .ensures) (r .receiver .ensures) (r .before .index-of .ensures) (c .before .index-of2 .ensures) (omega arith))
 
 returns-2 : tie.Need-returns-2 Inv-loop μ-loop
-unfolding keepsEveryPair
+unfolding keepsEveryPair breaksPair
 returns-2 c = sym (ap not (all-passed (c .before .loop .inv) (c .loop-test .left) (c .before .before .pairs .ensures)))
 
 pub breaks-pair-spec : {M : Type 1} → statement M

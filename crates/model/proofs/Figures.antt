@@ -1,0 +1,368 @@
+-- Document 01's own figures hold of the definitions: every field stands where the document puts it, and each call is refused with a number, or accepted, exactly
+-- where the document says so. Assumes nothing.
+use mathlib.Core.Path.{_≡_, refl, sym, ap, ap₂, _∙_}
+use mathlib.Core.Logic.{_⊎_, inl, inr, ⊎-elim, _↔_}
+use mathlib.Core.Bool.{true, false, not}
+use mathlib.Core.List.{List, [], _∷_, _++_}
+use Prim.Native.Nat.{ℕ, zero, suc, _+_, _*_, _/_, _%_, _^_, _≤_, _<_}
+use native.Mathlib.Omega.{arith}
+use lib.Dec.{eqb, ltb, lit<}
+use lib.ListN.{length}
+use borrow.Author.Tests.{not-true, eqb-true, eqb-false, eq-eqb, ne-eqb, ltb-true, ltb-false, lt-ltb, not-false}
+use Rattle.model.specs.Passing.{down}
+use Rattle.model.specs.Figures.{tasksStated, doorsStated, startsStated, pairsStated, rulesStated, pointsStated, distancesStated, StandsAt, Between, RightEntries, RightPlaces, RightRanges, SheetApplies, is10, is11, is12, is13, is14, is15, is16, is17, PlanningApplies, LaidOut, WritingApplies, ReadingPlanApplies, AnswersBy}
+use Rattle.model.specs.Folds.{anyBelow, sumBelow, sameList}
+use Rattle.model.specs.SheetLayout.{kind1, fieldWidth, bytesBefore, entryBytes, lineAt, lineBody, lineOffset, entries, bodyAt, fieldAt, decodeBy, layoutOf, decode}
+use Rattle.model.specs.Faults.{tooShort, wrongKind, wrongEntries, someWrongEntries, wrongLine, wrongLength, wrongPlaces, outOfRange, lacksDoor, someLacksDoor, tooLight, sheetTests, unlessFault, readSheet}
+use Rattle.model.specs.Bytes.{numberAt, signed, bytesOf}
+use Rattle.model.specs.Answer.{Answer, refused, accepted, Test}
+use Rattle.model.specs.Plans.{Plan, planCost, cheapest}
+use Rattle.model.specs.Planning.{cellsNeeded, fewCells, roomTests, orNoOrder, planFor, carriedOut, plan}
+use Rattle.model.specs.PlanLayout.{planStartAt, planDoorsAt, planCostAt, planLength, lineBytes, planHead, wrongTasks, shortRoom, writeTests, writeAnswer, writePlan, wrongHead, illFormed, readTests, readPlan}
+use Rattle.model.proofs.Refusing.{refused≢accepted, refused-number, Applies, refuse-append, pass-append, applies-append, Rising, answers-by}
+use Rattle.model.proofs.Tests.{tested, not-both, or-left, or-right, or-neither, between-is, all-at, all-below, none-at, none-below, any-true, one-passes, passes-unless, same-list, list-same}
+use Rattle.model.proofs.Entries.{entries-within}
+use Rattle.model.proofs.Ranges.{in-range, least-counts, range-passes}
+use Rattle.model.proofs.Loads.{light-is}
+use Rattle.model.proofs.Enumerations.{no-order-iff}
+use Rattle.model.proofs.Reading.{all-reads}
+use Rattle.model.proofs.Planning.{has-plan}
+use Rattle.model.proofs.PlanBytes.{length-is, tasks-fit, fitting}
+
+-- every field stands where the document puts it
+pub stands-at : (b : List ℕ) → StandsAt b (decode b)
+unfolding decode decodeBy layoutOf kind1 entries lineAt fieldAt fieldWidth bytesBefore entryBytes
+stands-at b = record {
+  endLoad = refl;
+  tasks = refl;
+  doors = refl;
+  starts = refl;
+  pairs = refl;
+  rules = refl;
+  points = refl;
+  change = λ t. ap (λ (i : ℕ). signed 2 (numberAt 2 b i)) (omega arith);
+  task = λ d. ap (numberAt 2 b) (omega arith);
+  arrive = λ d. ap (numberAt 2 b) (omega arith);
+  depart = λ d. ap (numberAt 2 b) (omega arith);
+  work = λ d. ap (numberAt 4 b) (omega arith);
+  startPoint = λ s. ap (numberAt 2 b) (omega arith);
+  sender = λ i. ap (numberAt 2 b) (omega arith);
+  receiver = λ i. ap (numberAt 2 b) (omega arith);
+  ruleDoor = λ i. ap (numberAt 2 b) (omega arith);
+  watched = λ i. ap (numberAt 2 b) (omega arith);
+  leastCount = λ i. ap (numberAt 2 b) (omega arith);
+  charge = λ i. ap (numberAt 4 b) (omega arith);
+  endCost = λ p. ap (numberAt 4 b) (omega arith);
+  distance = λ p q. ap (numberAt 2 b) (omega arith);
+}
+
+-- ---- the sheet's own numbers
+
+module _ (b : List ℕ) where
+  -- 12 is passed by the numbers of entries of the table
+  right-entries : (someWrongEntries (layoutOf b) b ≡ false) ↔ RightEntries b
+  unfolding someWrongEntries wrongEntries layoutOf kind1 entries lineAt
+  right-entries = (
+    (λ h. let w = entries-within kind1 b h in record {
+      tasks = w 0 (lit< tt);
+      doors = w 1 (lit< tt);
+      starts = w 2 (lit< tt);
+      pairs = w 3 (lit< tt);
+      rules = w 4 (lit< tt);
+      points = w 5 (lit< tt);
+      distances = let d = w 6 (lit< tt) in omega (arith, d .0, d .1);
+    }),
+    (λ h. none-below 7 (wrongEntries kind1 b) (at h)),
+  )
+    where
+      at : RightEntries b → (i : ℕ) → i < 7 → wrongEntries kind1 b i ≡ false
+      at h zero l = ap not (between-is 1 12 (tasksStated b) (h .tasks .0) (h .tasks .1))
+      at h (suc zero) l = ap not (between-is 1 64 (doorsStated b) (h .doors .0) (h .doors .1))
+      at h (suc (suc zero)) l = ap not (between-is 1 16 (startsStated b) (h .starts .0) (h .starts .1))
+      at h (suc (suc (suc zero))) l = ap not (between-is 0 32 (pairsStated b) (h .pairs .0) (h .pairs .1))
+      at h (suc (suc (suc (suc zero)))) l = ap not (between-is 0 32 (rulesStated b) (h .rules .0) (h .rules .1))
+      at h (suc (suc (suc (suc (suc zero))))) l = ap not (between-is 1 64 (pointsStated b) (h .points .0) (h .points .1))
+      at h (suc (suc (suc (suc (suc (suc zero)))))) l =
+          let n : ℕ = pointsStated b * pointsStated b in
+          ap not (between-is n n (distancesStated b) (omega (arith, h .distances)) (omega (arith, h .distances)))
+      at h (suc (suc (suc (suc (suc (suc (suc i))))))) l = absurd (omega arith)
+
+  -- 13 by the contents lines and the length
+  right-places : (wrongPlaces (layoutOf b) b ≡ false) ↔ RightPlaces b
+  unfolding wrongPlaces wrongLine wrongLength layoutOf kind1 entries lineAt lineBody lineOffset entryBytes bytesBefore fieldWidth
+  right-places = (there, back)
+    where
+      there : wrongPlaces (layoutOf b) b ≡ false → RightPlaces b
+      there h =
+          let line : (i : ℕ) → i < 7 → (lineBody b i ≡ suc i) × (lineOffset b i ≡ bodyAt kind1 b i) = λ i l.
+          let w = none-at 7 (wrongLine kind1 b) (or-left (anyBelow 7 (wrongLine kind1 b)) _ h) i l in
+          (eqb-true _ _ (not-false _ (or-left (not (eqb (lineBody b i) (suc i))) _ w)), eqb-true _ _ (not-false _ (or-right (not (eqb (lineBody b i) (suc i))) _ w))) in
+          let end : length b ≡ bodyAt kind1 b 7 = eqb-true _ _ (not-false _ (or-right (anyBelow 7 (wrongLine kind1 b)) _ h)) in
+          record {
+            tasks = line 0 (lit< tt);
+            doors = let w = line 1 (lit< tt) in (w .0, omega (arith, w .1));
+            starts = let w = line 2 (lit< tt) in (w .0, omega (arith, w .1));
+            pairs = let w = line 3 (lit< tt) in (w .0, omega (arith, w .1));
+            rules = let w = line 4 (lit< tt) in (w .0, omega (arith, w .1));
+            points = let w = line 5 (lit< tt) in (w .0, omega (arith, w .1));
+            distances = let w = line 6 (lit< tt) in (w .0, omega (arith, w .1));
+            ends = omega (arith, end);
+          }
+
+      right : (i : ℕ) → lineBody b i ≡ suc i → lineOffset b i ≡ bodyAt kind1 b i → wrongLine kind1 b i ≡ false
+      right i p q = or-neither (ap not (eq-eqb _ _ p)) (ap not (eq-eqb _ _ q))
+
+      at : RightPlaces b → (i : ℕ) → i < 7 → wrongLine kind1 b i ≡ false
+      at h zero l = right 0 (h .tasks .0) (h .tasks .1)
+      at h (suc zero) l = right 1 (h .doors .0) (omega (arith, h .doors .1))
+      at h (suc (suc zero)) l = right 2 (h .starts .0) (omega (arith, h .starts .1))
+      at h (suc (suc (suc zero))) l = right 3 (h .pairs .0) (omega (arith, h .pairs .1))
+      at h (suc (suc (suc (suc zero)))) l = right 4 (h .rules .0) (omega (arith, h .rules .1))
+      at h (suc (suc (suc (suc (suc zero))))) l = right 5 (h .points .0) (omega (arith, h .points .1))
+      at h (suc (suc (suc (suc (suc (suc zero)))))) l = right 6 (h .distances .0) (omega (arith, h .distances .1))
+      at h (suc (suc (suc (suc (suc (suc (suc i))))))) l = absurd (omega arith)
+
+      back : RightPlaces b → wrongPlaces (layoutOf b) b ≡ false
+      back h = or-neither (none-below 7 (wrongLine kind1 b) (at h)) (ap not (eq-eqb (length b) (bodyAt kind1 b 7) (omega (arith, h .ends))))
+
+  -- 14 by what is named and the least counts
+  right-ranges : (outOfRange (layoutOf b) (decode b) ≡ false) ↔ RightRanges (decode b)
+  unfolding layoutOf kind1
+  right-ranges = (
+    (λ h. record { named = in-range kind1 (decode b) h; leastCount = least-counts kind1 (decode b) h }),
+    (λ h. range-passes kind1 (decode b) (h .named) (h .leastCount)),
+  )
+
+  short : (tooShort b ≡ true) ↔ (length b < 46)
+  unfolding tooShort lineAt
+  short = (ltb-true _ _, lt-ltb _ _)
+
+  other-kind : (wrongKind (layoutOf b) b ≡ true) ↔ (numberAt 2 b 0 ≡ 1 → ⊥)
+  unfolding wrongKind layoutOf kind1
+  other-kind = ((λ h. eqb-false _ _ (not-true _ h)), (λ h. ap not (ne-eqb _ _ h)))
+
+  no-door : (someLacksDoor (decode b) ≡ true) ↔ ((t : ℕ) × (t < decode b .tasks) × ((d : ℕ) → d < decode b .doors → decode b .task d ≡ t → ⊥))
+  unfolding someLacksDoor lacksDoor
+  no-door = (
+    (λ h. let r = one-passes (decode b .tasks) (lacksDoor (decode b)) h in
+        (r .0, r .1, λ d l. eqb-false _ _ (not-true _ (all-at (decode b .doors) (λ d. not (eqb (decode b .task d) (r .0))) (r .2) d l)))),
+    (λ h. any-true (decode b .tasks) (lacksDoor (decode b)) (h .0) (h .1) (all-below (decode b .doors) _ (λ d l. ap not (ne-eqb _ _ (h .2 d l))))),
+  )
+
+  too-light : (tooLight (decode b) ≡ true) ↔ (decode b .endLoad < sumBelow (decode b .tasks) (λ t. down (decode b .change t)))
+  too-light = ((λ h. ltb-true _ _ (sym (light-is (decode b)) ∙ h)), (λ h. light-is (decode b) ∙ lt-ltb _ _ h))
+
+  -- each of the sheet's tests applies exactly where its number does
+  pub sheet-applies : (r : ℕ) → Applies (sheetTests b) r ↔ SheetApplies b r
+  unfolding sheetTests
+  sheet-applies r = (there, back)
+    where
+      there : Applies (sheetTests b) r → SheetApplies b r
+      there (inl h) = is10 (h .0) (short .0 (h .1))
+      there (inr (inl h)) = is11 (h .0) (other-kind .0 (h .1))
+      there (inr (inr (inl h))) = is12 (h .0) (passes-unless _ right-entries .0 (h .1))
+      there (inr (inr (inr (inl h)))) = is13 (h .0) (passes-unless _ right-places .0 (h .1))
+      there (inr (inr (inr (inr (inl h))))) = is14 (h .0) (passes-unless _ right-ranges .0 (h .1))
+      there (inr (inr (inr (inr (inr (inl h)))))) = let n = no-door .0 (h .1) in is15 (h .0) (n .0) (n .1) (n .2)
+      there (inr (inr (inr (inr (inr (inr (inl h))))))) = is16 (h .0) (too-light .0 (h .1))
+      there (inr (inr (inr (inr (inr (inr (inr (inl h)))))))) = is17 (h .0) (no-order-iff (decode b) .0 (h .1))
+      there (inr (inr (inr (inr (inr (inr (inr (inr h)))))))) = absurd h
+
+      back : SheetApplies b r → Applies (sheetTests b) r
+      back (is10 e h) = inl (e, short .1 h)
+      back (is11 e h) = inr (inl (e, other-kind .1 h))
+      back (is12 e h) = inr (inr (inl (e, passes-unless _ right-entries .1 h)))
+      back (is13 e h) = inr (inr (inr (inl (e, passes-unless _ right-places .1 h))))
+      back (is14 e h) = inr (inr (inr (inr (inl (e, passes-unless _ right-ranges .1 h)))))
+      back (is15 e t l h) = inr (inr (inr (inr (inr (inl (e, no-door .1 (t, l, h)))))))
+      back (is16 e h) = inr (inr (inr (inr (inr (inr (inl (e, too-light .1 h)))))))
+      back (is17 e h) = inr (inr (inr (inr (inr (inr (inr (inl (e, no-order-iff (decode b) .1 h))))))))
+
+-- reading is refused with each of its numbers, and accepts, exactly where document 01 says so
+pub reading-answers : (b : List ℕ) → AnswersBy (SheetApplies b) (readSheet b)
+unfolding readSheet unlessFault sheetTests
+reading-answers b = answers-by (sheetTests b) _ (SheetApplies b) (lit< tt, (lit< tt, (lit< tt, (lit< tt, (lit< tt, (lit< tt, (lit< tt, (lit< tt, tt)))))))) (λ p. (_, refl)) (λ r n. sheet-applies b r)
+
+-- ---- planning
+
+pub rising-sheet : (b : List ℕ) (us : List Test) → Rising 17 us → Rising 0 (sheetTests b ++ us)
+unfolding sheetTests
+rising-sheet b us h = (lit< tt, (lit< tt, (lit< tt, (lit< tt, (lit< tt, (lit< tt, (lit< tt, (lit< tt, h))))))))
+
+-- 21, and so for writing a plan
+short-room : (n room : ℕ) → (shortRoom n room ≡ true) ↔ (room < 32 + 2 * n)
+unfolding shortRoom
+short-room n room = rw length-is (ltb-true _ _, lt-ltb _ _)
+
+module _ (b : List ℕ) (cells room : ℕ) where
+  few-cells : (fewCells (decode b) cells ≡ true) ↔ (cells < 2 ^ tasksStated b * pointsStated b)
+  unfolding fewCells cellsNeeded decode decodeBy entries lineAt
+  few-cells = (ltb-true _ _, lt-ltb _ _)
+
+  short-plan : (shortRoom (decode b .tasks) room ≡ true) ↔ (room < 32 + 2 * tasksStated b)
+  unfolding decode decodeBy entries lineAt
+  short-plan = short-room (tasksStated b) room
+
+  planning-applies : (r : ℕ) → Applies (sheetTests b ++ roomTests (decode b) cells room) r ↔ PlanningApplies b cells room r
+  unfolding roomTests
+  planning-applies r = (
+    (λ h. there (applies-append (sheetTests b) (roomTests (decode b) cells room) r .0 h)),
+    (λ h. applies-append (sheetTests b) (roomTests (decode b) cells room) r .1 (back h)),
+  )
+    where
+      there : Applies (sheetTests b) r ⊎ Applies (roomTests (decode b) cells room) r → PlanningApplies b cells room r
+      there (inl h) = PlanningApplies.sheet (sheet-applies b r .0 h)
+      there (inr (inl h)) = PlanningApplies.is20 (h .0) (few-cells .0 (h .1))
+      there (inr (inr (inl h))) = PlanningApplies.is21 (h .0) (short-plan .0 (h .1))
+      there (inr (inr (inr h))) = absurd h
+
+      back : PlanningApplies b cells room r → Applies (sheetTests b) r ⊎ Applies (roomTests (decode b) cells room) r
+      back (PlanningApplies.sheet h) = inl (sheet-applies b r .1 h)
+      back (PlanningApplies.is20 e h) = inr (inl (e, few-cells .1 h))
+      back (PlanningApplies.is21 e h) = inr (inr (inl (e, short-plan .1 h)))
+
+  plan-answers : AnswersBy (PlanningApplies b cells room) (planFor b cells room)
+  unfolding planFor unlessFault roomTests
+  plan-answers = rw (refuse-append (sheetTests b) (roomTests (decode b) cells room) (orNoOrder (cheapest (decode b))))
+      (answers-by (sheetTests b ++ roomTests (decode b) cells room) _ (PlanningApplies b cells room) (rising-sheet b _ (lit< tt, (lit< tt, tt)))
+      (λ p. let x = has-plan b (all-reads b (pass-append (sheetTests b) (roomTests (decode b) cells room) p .0)) in (x .0, ap orNoOrder (x .1)))
+      (λ r n. planning-applies r))
+
+-- planning answers as its plan does
+pub planning-answers : (b cells buffer : List ℕ) → AnswersBy (PlanningApplies b (length cells) (length buffer)) (plan b cells buffer .answer)
+unfolding plan
+planning-answers b cells buffer = go (planFor b (length cells) (length buffer)) (plan-answers b (length cells) (length buffer))
+  where
+    go : (a : Answer Plan) → AnswersBy (PlanningApplies b (length cells) (length buffer)) a
+        → AnswersBy (PlanningApplies b (length cells) (length buffer)) (carriedOut (decode b) a cells buffer .answer)
+    go (refused n) h = record {
+      refuses = λ r. ((λ e. h .refuses r .0 (ap refused (refused-number e))), (λ k. ap refused (refused-number (h .refuses r .1 k))));
+      accepts = ((λ x. absurd (refused≢accepted (x .1))), (λ k. absurd (refused≢accepted (h .accepts .1 k .1))));
+      returns = h .returns;
+      returns-0 = h .returns-0;
+    }
+    go (accepted x) h = record {
+      refuses = λ r. ((λ e. absurd (refused≢accepted (sym e))), (λ k. absurd (refused≢accepted (sym (h .refuses r .1 k)))));
+      accepts = ((λ y. h .accepts .0 (x, refl)), (λ k. (planCost (decode b) x, refl)));
+      returns = h .returns;
+      returns-0 = h .returns-0;
+    }
+
+-- ---- writing and reading a plan
+
+-- 12: N is outside 1 to 12, or fewer doors than N are lent
+wrong-tasks : (n lent : ℕ) → (wrongTasks n lent ≡ true) ↔ ((Between 1 12 n → ⊥) ⊎ (lent < n))
+wrong-tasks n lent = (there, back)
+  where
+    there : wrongTasks n lent ≡ true → (Between 1 12 n → ⊥) ⊎ (lent < n)
+    there h = ⊎-elim
+        (λ (w : ltb lent n ≡ true). inr (ltb-true lent n w))
+        (λ (w : ltb lent n ≡ false). inl (λ k. not-both h (tasks-fit n lent (k .0) (k .1) (ltb-false lent n w))))
+        (tested (ltb lent n))
+
+    back : (Between 1 12 n → ⊥) ⊎ (lent < n) → wrongTasks n lent ≡ true
+    back h = ⊎-elim
+        (λ (w : wrongTasks n lent ≡ true). w)
+        (λ (w : wrongTasks n lent ≡ false). let f = fitting n lent w in
+        absurd (⊎-elim (λ (k : Between 1 12 n → ⊥). k (f .0, f .1)) (λ (k : lent < n). omega (arith, f .2)) h))
+        (tested (wrongTasks n lent))
+
+writing-applies : (n lent room r : ℕ) → Applies (writeTests n lent room) r ↔ WritingApplies n lent room r
+unfolding writeTests
+writing-applies n lent room r = (there, back)
+  where
+    there : Applies (writeTests n lent room) r → WritingApplies n lent room r
+    there (inl h) = ⊎-elim (WritingApplies.tasks12 (h .0)) (WritingApplies.lent12 (h .0)) (wrong-tasks n lent .0 (h .1))
+    there (inr (inl h)) = WritingApplies.is21 (h .0) (short-room n room .0 (h .1))
+    there (inr (inr h)) = absurd h
+
+    back : WritingApplies n lent room r → Applies (writeTests n lent room) r
+    back (WritingApplies.tasks12 e h) = inl (e, wrong-tasks n lent .1 (inl h))
+    back (WritingApplies.lent12 e h) = inl (e, wrong-tasks n lent .1 (inr h))
+    back (WritingApplies.is21 e h) = inr (inl (e, short-room n room .1 h))
+
+pub writing-answers : (n start : ℕ) (doors : List ℕ) (c : ℕ) (buffer : List ℕ) → AnswersBy (WritingApplies n (length doors) (length buffer)) (writePlan n start doors c buffer .answer)
+unfolding writePlan writeAnswer writeTests
+writing-answers n start doors c buffer = answers-by (writeTests n (length doors) (length buffer)) _ (WritingApplies n (length doors) (length buffer)) (lit< tt, (lit< tt, tt)) (λ p. (_, refl))
+    (λ r k. writing-applies n (length doors) (length buffer) r)
+
+-- the head of a plan, byte by byte
+head-is : (n : ℕ) → n ≤ 12 → planHead n ≡ 2 ∷ 0 ∷ 0 ∷ 0 ∷ 1 ∷ 0 ∷ 22 ∷ 0 ∷ 1 ∷ 0 ∷ 2 ∷ 0 ∷ 24 ∷ 0 ∷ n ∷ 0 ∷ 3 ∷ 0 ∷ (24 + 2 * n) ∷ 0 ∷ 1 ∷ 0 ∷ []
+unfolding planHead lineBytes bytesOf planStartAt planDoorsAt planCostAt lineAt
+head-is n l =
+    let low : n % 256 ≡ n = omega arith in
+    let high : n / 256 % 256 ≡ 0 = omega arith in
+    let low2 : (24 + 2 * n) % 256 ≡ 24 + 2 * n = omega arith in
+    let high2 : (24 + 2 * n) / 256 % 256 ≡ 0 = omega arith in
+    rw (low, high, low2, high2) refl
+
+-- 30 for up to twelve doors: the length and every byte before 22
+pub well-formed : (n : ℕ) (q : List ℕ) → n ≤ 12 → (illFormed n q ≡ false) ↔ LaidOut n q
+unfolding illFormed wrongHead planStartAt lineAt
+well-formed n q few = (
+  (λ h. (
+    eqb-true _ _ (not-false _ (or-left (not (eqb (length q) (planLength n))) _ h)) ∙ length-is n,
+    same-list _ _ (not-false _ (or-right (not (eqb (length q) (planLength n))) _ h)) ∙ head-is n few,
+  )),
+  (λ h. or-neither
+      (ap not (eq-eqb (length q) (planLength n) (h .0 ∙ sym (length-is n))))
+      (ap not (ap₂ sameList (h .1 ∙ sym (head-is n few)) refl ∙ list-same (planHead n)))),
+)
+
+reading-applies : (n lent : ℕ) (q : List ℕ) (r : ℕ) → ((k : ℕ) → k < r → Applies (readTests n lent q) k → ⊥) → Applies (readTests n lent q) r ↔ ReadingPlanApplies n lent q r
+unfolding readTests
+reading-applies n lent q r lower = (there, back)
+  where
+    -- 12 does not apply where 30 is asked for
+    few : r ≡ 30 → n ≤ 12
+    few e = ⊎-elim
+        (λ (w : wrongTasks n lent ≡ true). absurd (lower 12 (omega arith) (inl (refl, w))))
+        (λ (w : wrongTasks n lent ≡ false). fitting n lent w .1)
+        (tested (wrongTasks n lent))
+
+    there : Applies (readTests n lent q) r → ReadingPlanApplies n lent q r
+    there (inl h) = ⊎-elim (ReadingPlanApplies.tasks12 (h .0)) (ReadingPlanApplies.lent12 (h .0)) (wrong-tasks n lent .0 (h .1))
+    there (inr (inl h)) = ReadingPlanApplies.is30 (h .0) (passes-unless _ (well-formed n q (few (h .0))) .0 (h .1))
+    there (inr (inr h)) = absurd h
+
+    back : ReadingPlanApplies n lent q r → Applies (readTests n lent q) r
+    back (ReadingPlanApplies.tasks12 e h) = inl (e, wrong-tasks n lent .1 (inl h))
+    back (ReadingPlanApplies.lent12 e h) = inl (e, wrong-tasks n lent .1 (inr h))
+    back (ReadingPlanApplies.is30 e h) = inr (inl (e, passes-unless _ (well-formed n q (few e)) .1 h))
+
+pub plan-reading-answers : (n lent : ℕ) (q : List ℕ) → AnswersBy (ReadingPlanApplies n lent q) (readPlan n lent q)
+unfolding readPlan readTests
+plan-reading-answers n lent q = answers-by (readTests n lent q) _ (ReadingPlanApplies n lent q) (lit< tt, (lit< tt, tt)) (λ p. (_, refl)) (reading-applies n lent q)
+
+-- with twelve doors lent, as document 01 has it, 12 is for N outside 1 to 12 alone
+pub writing-twelve : (n start : ℕ) (doors : List ℕ) (c : ℕ) (buffer : List ℕ) → length doors ≡ 12 → (writePlan n start doors c buffer .answer ≡ refused 12) ↔ (Between 1 12 n → ⊥)
+writing-twelve n start doors c buffer e = (
+  (λ h. there (writing-answers n start doors c buffer .refuses 12 .0 h .0)),
+  (λ h. writing-answers n start doors c buffer .refuses 12 .1 (WritingApplies.tasks12 refl h, lower)),
+)
+  where
+    there : WritingApplies n (length doors) (length buffer) 12 → Between 1 12 n → ⊥
+    there (WritingApplies.tasks12 w h) = h
+    there (WritingApplies.lent12 w h) = λ k. omega (arith, k .1)
+    there (WritingApplies.is21 w h) = absurd (omega arith)
+
+    lower : (k : ℕ) → k < 12 → WritingApplies n (length doors) (length buffer) k → ⊥
+    lower k l (WritingApplies.tasks12 w h) = omega arith
+    lower k l (WritingApplies.lent12 w h) = omega arith
+    lower k l (WritingApplies.is21 w h) = omega arith
+
+pub reading-twelve : (n : ℕ) (q : List ℕ) → (readPlan n 12 q ≡ refused 12) ↔ (Between 1 12 n → ⊥)
+reading-twelve n q = (
+  (λ h. there (plan-reading-answers n 12 q .refuses 12 .0 h .0)),
+  (λ h. plan-reading-answers n 12 q .refuses 12 .1 (ReadingPlanApplies.tasks12 refl h, lower)),
+)
+  where
+    there : ReadingPlanApplies n 12 q 12 → Between 1 12 n → ⊥
+    there (ReadingPlanApplies.tasks12 w h) = h
+    there (ReadingPlanApplies.lent12 w h) = λ k. omega (arith, k .1)
+    there (ReadingPlanApplies.is30 w h) = absurd (omega arith)
+
+    lower : (k : ℕ) → k < 12 → ReadingPlanApplies n 12 q k → ⊥
+    lower k l (ReadingPlanApplies.tasks12 w h) = omega arith
+    lower k l (ReadingPlanApplies.lent12 w h) = omega arith
+    lower k l (ReadingPlanApplies.is30 w h) = omega arith

@@ -1,0 +1,215 @@
+-- Document 01's own figures: where each number of a sheet stands, and what each number that a call can answer with means, in plain facts. For each call the
+-- theorem of its name in proofs/Figures.antt shows that it is refused and accepted exactly so. No figure here comes from the table of SheetLayout.antt, and no
+-- order from a list of tests (01, Layout of a task sheet, Layout of a plan and Numbers a call can answer with). Assumes nothing.
+use mathlib.Core.Path.{_≡_}
+use mathlib.Core.Logic.{_↔_}
+use mathlib.Core.Bool.{true}
+use mathlib.Core.List.{List, [], _∷_}
+use Prim.Native.Nat.{ℕ, _+_, _*_, _^_, _≤_, _<_}
+use lib.ListN.{length, take}
+use Rattle.model.specs.Folds.{sumBelow, mapBelow}
+use Rattle.model.specs.Sheet.{Sheet}
+use Rattle.model.specs.Orders.{isAdmissible}
+use Rattle.model.specs.Plans.{roundCost}
+use Rattle.model.specs.Bytes.{numberAt, signed}
+use Rattle.model.specs.Answer.{Answer, refused, accepted, status}
+use Rattle.model.specs.SheetLayout.{decode}
+use Rattle.model.specs.Passing.{InRange, down}
+
+-- ---- where the numbers of a sheet stand
+
+-- the numbers of entries, in the last 16 bits of each contents line: N tasks
+abbrev pub tasksStated : List ℕ → ℕ
+tasksStated b = numberAt 2 b 8
+
+abbrev pub doorsStated : List ℕ → ℕ
+doorsStated b = numberAt 2 b 14
+
+abbrev pub startsStated : List ℕ → ℕ
+startsStated b = numberAt 2 b 20
+
+abbrev pub pairsStated : List ℕ → ℕ
+pairsStated b = numberAt 2 b 26
+
+abbrev pub rulesStated : List ℕ → ℕ
+rulesStated b = numberAt 2 b 32
+
+-- P points
+abbrev pub pointsStated : List ℕ → ℕ
+pointsStated b = numberAt 2 b 38
+
+abbrev pub distancesStated : List ℕ → ℕ
+distancesStated b = numberAt 2 b 44
+
+-- where each body starts, the tasks at byte 46, and where the last ends
+abbrev pub doorsFrom : List ℕ → ℕ
+doorsFrom b = 46 + 2 * tasksStated b
+
+abbrev pub startsFrom : List ℕ → ℕ
+startsFrom b = doorsFrom b + 10 * doorsStated b
+
+abbrev pub pairsFrom : List ℕ → ℕ
+pairsFrom b = startsFrom b + 2 * startsStated b
+
+abbrev pub rulesFrom : List ℕ → ℕ
+rulesFrom b = pairsFrom b + 4 * pairsStated b
+
+abbrev pub pointsFrom : List ℕ → ℕ
+pointsFrom b = rulesFrom b + 10 * rulesStated b
+
+abbrev pub distancesFrom : List ℕ → ℕ
+distancesFrom b = pointsFrom b + 4 * pointsStated b
+
+abbrev pub endsAt : List ℕ → ℕ
+endsAt b = distancesFrom b + 2 * distancesStated b
+
+-- what the sheet says, field by field: 16 bits each, but 32 for work, charge and end cost
+pub record StandsAt (b : List ℕ) (S : Sheet) : Type 0 where
+  pub endLoad : S .endLoad ≡ numberAt 2 b 2
+  pub tasks : S .tasks ≡ tasksStated b
+  pub doors : S .doors ≡ doorsStated b
+  pub starts : S .starts ≡ startsStated b
+  pub pairs : S .pairs ≡ pairsStated b
+  pub rules : S .rules ≡ rulesStated b
+  pub points : S .points ≡ pointsStated b
+  pub change : (t : ℕ) → S .change t ≡ signed 2 (numberAt 2 b (46 + 2 * t))
+  pub task : (d : ℕ) → S .task d ≡ numberAt 2 b (doorsFrom b + 10 * d)
+  pub arrive : (d : ℕ) → S .arrive d ≡ numberAt 2 b (doorsFrom b + 10 * d + 2)
+  pub depart : (d : ℕ) → S .depart d ≡ numberAt 2 b (doorsFrom b + 10 * d + 4)
+  pub work : (d : ℕ) → S .work d ≡ numberAt 4 b (doorsFrom b + 10 * d + 6)
+  pub startPoint : (s : ℕ) → S .startPoint s ≡ numberAt 2 b (startsFrom b + 2 * s)
+  pub sender : (i : ℕ) → S .sender i ≡ numberAt 2 b (pairsFrom b + 4 * i)
+  pub receiver : (i : ℕ) → S .receiver i ≡ numberAt 2 b (pairsFrom b + 4 * i + 2)
+  pub ruleDoor : (i : ℕ) → S .ruleDoor i ≡ numberAt 2 b (rulesFrom b + 10 * i)
+  pub watched : (i : ℕ) → S .watched i ≡ numberAt 2 b (rulesFrom b + 10 * i + 2)
+  pub leastCount : (i : ℕ) → S .leastCount i ≡ numberAt 2 b (rulesFrom b + 10 * i + 4)
+  pub charge : (i : ℕ) → S .charge i ≡ numberAt 4 b (rulesFrom b + 10 * i + 6)
+  pub endCost : (p : ℕ) → S .endCost p ≡ numberAt 4 b (pointsFrom b + 4 * p)
+  pub distance : (p q : ℕ) → S .distance p q ≡ numberAt 2 b (distancesFrom b + 2 * (p * pointsStated b + q))
+
+-- ---- what the sheet's own numbers mean
+
+-- n is from lo to hi
+abbrev pub Between : ℕ → ℕ → ℕ → Type 0
+Between lo hi n = (lo ≤ n) × (n ≤ hi)
+
+-- 12: the numbers of entries are those of the table
+pub record RightEntries (b : List ℕ) : Type 0 where
+  pub tasks : Between 1 12 (tasksStated b)
+  pub doors : Between 1 64 (doorsStated b)
+  pub starts : Between 1 16 (startsStated b)
+  pub pairs : Between 0 32 (pairsStated b)
+  pub rules : Between 0 32 (rulesStated b)
+  pub points : Between 1 64 (pointsStated b)
+  pub distances : distancesStated b ≡ pointsStated b * pointsStated b
+
+-- 13: the contents lines have these body numbers and offsets, and the sheet ends with body 7
+pub record RightPlaces (b : List ℕ) : Type 0 where
+  pub tasks : (numberAt 2 b 4 ≡ 1) × (numberAt 2 b 6 ≡ 46)
+  pub doors : (numberAt 2 b 10 ≡ 2) × (numberAt 2 b 12 ≡ doorsFrom b)
+  pub starts : (numberAt 2 b 16 ≡ 3) × (numberAt 2 b 18 ≡ startsFrom b)
+  pub pairs : (numberAt 2 b 22 ≡ 4) × (numberAt 2 b 24 ≡ pairsFrom b)
+  pub rules : (numberAt 2 b 28 ≡ 5) × (numberAt 2 b 30 ≡ rulesFrom b)
+  pub points : (numberAt 2 b 34 ≡ 6) × (numberAt 2 b 36 ≡ pointsFrom b)
+  pub distances : (numberAt 2 b 40 ≡ 7) × (numberAt 2 b 42 ≡ distancesFrom b)
+  pub ends : length b ≡ endsAt b
+
+-- 14: every task, point and door that is named is in the sheet, no watched bit is at N or above, which would make the number 2^N or more, and least counts run from 1 to 12
+pub record RightRanges (S : Sheet) : Type 0 where
+  pub named : InRange S
+  pub leastCount : (i : ℕ) → i < S .rules → Between 1 12 (S .leastCount i)
+
+-- the number r applies to the sheet b
+pub data SheetApplies (b : List ℕ) (r : ℕ) : Type 0 where
+  -- 10: the sheet is shorter than 46 bytes
+  is10 : r ≡ 10 → length b < 46 → SheetApplies b r
+  -- 11: the kind is not 1
+  is11 : r ≡ 11 → (numberAt 2 b 0 ≡ 1 → ⊥) → SheetApplies b r
+  -- 12: a number of entries is outside the table
+  is12 : r ≡ 12 → (RightEntries b → ⊥) → SheetApplies b r
+  -- 13: a body number or offset is wrong, or the sheet's length is not the end of body 7
+  is13 : r ≡ 13 → (RightPlaces b → ⊥) → SheetApplies b r
+  -- 14: a task, point, door or least count is out of range, or a watched bit at N or above
+  is14 : r ≡ 14 → (RightRanges (decode b) → ⊥) → SheetApplies b r
+  -- 15: some task has no door
+  is15 : r ≡ 15 → (t : ℕ) → t < decode b .tasks → ((d : ℕ) → d < decode b .doors → decode b .task d ≡ t → ⊥) → SheetApplies b r
+  -- 16: E plus all negative w is below zero
+  is16 : r ≡ 16 → decode b .endLoad < sumBelow (decode b .tasks) (λ t. down (decode b .change t)) → SheetApplies b r
+  -- 17: no order of the tasks keeps every pair
+  is17 : r ≡ 17 → ((ts : List ℕ) → isAdmissible (decode b) ts ≡ true → ⊥) → SheetApplies b r
+
+-- ---- what the numbers of planning mean
+
+-- r applies to the sheet b with so many cells and so many bytes lent
+pub data PlanningApplies (b : List ℕ) (cells room r : ℕ) : Type 0 where
+  sheet : SheetApplies b r → PlanningApplies b cells room r
+  -- 20: fewer work cells than needed
+  is20 : r ≡ 20 → cells < 2 ^ tasksStated b * pointsStated b → PlanningApplies b cells room r
+  -- 21: the buffer is shorter than 32 + 2N
+  is21 : r ≡ 21 → room < 32 + 2 * tasksStated b → PlanningApplies b cells room r
+
+-- ---- what the numbers of a plan mean
+
+-- the plan is laid out for n doors: its length, and every byte before 22
+abbrev pub LaidOut : ℕ → List ℕ → Type 0
+LaidOut n q =
+    (length q ≡ 32 + 2 * n)
+    × (take 22 q ≡ 2 ∷ 0 ∷ 0 ∷ 0 ∷ 1 ∷ 0 ∷ 22 ∷ 0 ∷ 1 ∷ 0 ∷ 2 ∷ 0 ∷ 24 ∷ 0 ∷ n ∷ 0 ∷ 3 ∷ 0 ∷ (24 + 2 * n) ∷ 0 ∷ 1 ∷ 0 ∷ [])
+
+-- the start, door i and the cost that a plan states
+abbrev pub startStated : List ℕ → ℕ
+startStated q = numberAt 2 q 22
+
+abbrev pub doorStated : List ℕ → ℕ → ℕ
+doorStated q i = numberAt 2 q (24 + 2 * i)
+
+abbrev pub costStated : ℕ → List ℕ → ℕ
+costStated n q = numberAt 8 q (24 + 2 * n)
+
+-- r applies to the plan q for the sheet b, of n tasks and what the sheet says
+pub data ValidatingApplies (b q : List ℕ) (r : ℕ) : Type 0 where
+  sheet : SheetApplies b r → ValidatingApplies b q r
+  -- 30: the plan's length or any byte before 22 is not as laid out for this N
+  is30 : r ≡ 30 → (LaidOut (tasksStated b) q → ⊥) → ValidatingApplies b q r
+  -- 31: a start or door number is not in the sheet
+  start31 : r ≡ 31 → startsStated b ≤ startStated q → ValidatingApplies b q r
+  door31 : r ≡ 31 → (i : ℕ) → i < tasksStated b → doorsStated b ≤ doorStated q i → ValidatingApplies b q r
+  -- 32: a task is done twice
+  is32 : r ≡ 32 → (i j : ℕ) → i < j → j < tasksStated b → decode b .task (doorStated q i) ≡ decode b .task (doorStated q j) → ValidatingApplies b q r
+  -- 33: a receiver is before its sender
+  is33 : r ≡ 33 → (p i j : ℕ) → p < pairsStated b → i < j → j < tasksStated b
+      → decode b .task (doorStated q i) ≡ decode b .receiver p → decode b .task (doorStated q j) ≡ decode b .sender p → ValidatingApplies b q r
+  -- 34: the cost stated is not the cost
+  is34 : r ≡ 34 → (costStated (tasksStated b) q ≡ roundCost (decode b) (startStated q) (mapBelow (tasksStated b) (doorStated q)) → ⊥) → ValidatingApplies b q r
+
+-- r applies to writing a plan of n doors, with so many doors lent and so many bytes
+pub data WritingApplies (n lent room r : ℕ) : Type 0 where
+  -- 12: N is outside 1 to 12, or fewer than N doors are lent
+  tasks12 : r ≡ 12 → (Between 1 12 n → ⊥) → WritingApplies n lent room r
+  lent12 : r ≡ 12 → lent < n → WritingApplies n lent room r
+  -- 21: the buffer is shorter than 32 + 2N
+  is21 : r ≡ 21 → room < 32 + 2 * n → WritingApplies n lent room r
+
+-- r applies to reading a plan of n doors, with so many doors lent
+pub data ReadingPlanApplies (n lent : ℕ) (q : List ℕ) (r : ℕ) : Type 0 where
+  tasks12 : r ≡ 12 → (Between 1 12 n → ⊥) → ReadingPlanApplies n lent q r
+  lent12 : r ≡ 12 → lent < n → ReadingPlanApplies n lent q r
+  -- 30: the condition that judging has for it
+  is30 : r ≡ 30 → (LaidOut n q → ⊥) → ReadingPlanApplies n lent q r
+
+-- ---- what a call answers
+
+-- r applies, and no lower number does
+abbrev pub Lowest : (ℕ → Type 0) → ℕ → Type 0
+Lowest applies r = applies r × ((n : ℕ) → n < r → applies n → ⊥)
+
+-- no number applies
+abbrev pub None : (ℕ → Type 0) → Type 0
+None applies = (n : ℕ) → applies n → ⊥
+
+-- the call is refused with r exactly if r applies and no lower number that it can give applies, and is accepted exactly if none does; and so by what is returned
+pub record AnswersBy {A : Type 0} (applies : ℕ → Type 0) (a : Answer A) : Type 0 where
+  pub refuses : (r : ℕ) → (a ≡ refused r) ↔ Lowest applies r
+  pub accepts : ((x : A) × (a ≡ accepted x)) ↔ None applies
+  pub returns : (r : ℕ) → 0 < r → (status a ≡ r) ↔ Lowest applies r
+  pub returns-0 : (status a ≡ 0) ↔ None applies

@@ -1,0 +1,66 @@
+-- What only the code's way of working needs, and no other definition: lists as masks of a width, powers of two up to a limit, the tasks and doors that
+-- can come first (000, (4.1)), and striking them off, by which 17 is decided. Assumes nothing.
+use mathlib.Core.Bool.{Bool, cond, not, _&&_}
+use mathlib.Core.List.{List}
+use Prim.Native.Nat.{ℕ, zero, suc, _^_}
+use lib.Dec.{eqb, ltb, leb}
+use Rattle.model.specs.Folds.{allBelow, passingBelow}
+use Rattle.model.specs.TaskList.{member, with, without, full}
+use Rattle.model.specs.Sheet.{Sheet}
+use Rattle.model.specs.Orders.{pairWithin}
+
+-- ---- lists as masks of a width
+
+-- the bits of a mask in the code
+abbrev pub maskBits : ℕ
+maskBits = 32
+
+-- K with task j, in a mask of w bits: a task from w on has no bit there, and K stays as it is (01, The shape of each place)
+unfoldable pub withIn : ℕ → ℕ → ℕ → ℕ
+withIn w K j = cond (ltb j w) (with K j) K
+
+-- the most tasks that the code has a power of two for (01, Working)
+abbrev pub maxListed : ℕ
+maxListed = 12
+
+-- the number of lists of n tasks, or 0 where n is above that (01, Working)
+unfoldable pub listsOf : ℕ → ℕ
+listsOf n = cond (leb n maxListed) (2 ^ n) 0
+
+-- the full list of n tasks, or the empty one where n is above that (01, Working)
+unfoldable pub fullOf : ℕ → ℕ
+fullOf n = cond (leb n maxListed) (full n) 0
+
+-- ---- what can come first
+
+-- task t is receiver in no pair within K (000, (4.1))
+unfoldable pub isFree : Sheet → ℕ → ℕ → Bool
+isFree S K t = allBelow (S .pairs) (λ i. not (pairWithin S K i && eqb t (S .receiver i)))
+
+-- task t can come first in K: it is in K, and receiver in no pair within K (000, the list I(K) of (4.1))
+unfoldable pub canComeFirst : Sheet → ℕ → ℕ → Bool
+canComeFirst S K t = member K t && isFree S K t
+
+-- the doors whose task can come first in K, by number (000, (4.1))
+unfoldable pub firstDoors : Sheet → ℕ → List ℕ
+firstDoors S K = passingBelow (S .doors) (λ d. canComeFirst S K (S .task d))
+
+-- ---- striking off
+
+-- K with task t struck off if it can come first in K (000, (4.1))
+abbrev pub strike : Sheet → ℕ → ℕ → ℕ
+strike S K t = cond (canComeFirst S K t) (without K t) K
+
+-- what is left of K after each of the tasks 0, 1, .. below n in turn was struck off if it could come first in what was left (000, (4.1), again and again)
+abbrev pub strikeBelow : Sheet → ℕ → ℕ → ℕ
+strikeBelow S zero K = K
+strikeBelow S (suc n) K = strike S (strikeBelow S n K) n
+
+-- and after k such passes over all tasks (000, (4.1), again and again)
+abbrev pub strikeOff : Sheet → ℕ → ℕ → ℕ
+strikeOff S zero K = K
+strikeOff S (suc k) K = strikeBelow S (S .tasks) (strikeOff S k K)
+
+-- as many passes as there are tasks leave something of the full list (000, (4.1), again and again)
+unfoldable pub somethingLeft : Sheet → Bool
+somethingLeft S = not (eqb (strikeOff S (S .tasks) (fullOf (S .tasks))) 0)

@@ -1,0 +1,163 @@
+-- Further neighbours of sheet A, by a computed check on the definitions: two numbers at once, for every two that a call tests one after the other; the limits of the
+-- table, on both sides; numbers of two bytes; and what is allowed although it looks odd (01, Layout of a task sheet and Numbers a call can answer with). Assumes nothing.
+use mathlib.Core.Bool.{Bool, _&&_}
+use mathlib.Core.List.{List, [], _∷_, _++_}
+use Prim.Native.Nat.{ℕ, _-_}
+use lib.Dec.{eqb}
+use lib.ListN.{length, getD, set, take}
+use Rattle.model.specs.Folds.{flatMapBelow}
+use Rattle.model.specs.Answer.{refused, accepted}
+use Rattle.model.specs.Faults.{readSheet}
+use Rattle.model.specs.PlanLayout.{writePlan, readPlan}
+use Rattle.model.specs.Validating.{validate}
+use Rattle.model.specs.Planning.{plan}
+use Rattle.model.specs.Examples.{sheetA, likeA, pairBytes, ruleBytes, paired, ringed, sheetB, cellNoise, byteNoise, planA, planLikeA, sameAnswer, readingRefuses, readingAnswers, planRefuses}
+
+-- ---- sheets
+
+-- A with the number n in byte i
+abbrev changed : ℕ → ℕ → List ℕ
+changed i n = set sheetA i n
+
+-- A with P points and D distances, D as two bytes
+abbrev pointed : ℕ → ℕ → ℕ → List ℕ
+pointed P low high = set (set (changed 38 P) 44 low) 45 high
+
+-- A with a rule on door 0
+abbrev ruled : ℕ → ℕ → List ℕ
+ruled watched leastCount = likeA 10 0 [] 1 (ruleBytes 0 watched leastCount 50)
+
+-- the shortest sheet: one task, door, start and point
+abbrev shortest : List ℕ
+shortest =
+    1 ∷ 0 ∷ 0 ∷ 0
+    ∷ 1 ∷ 0 ∷ 46 ∷ 0 ∷ 1 ∷ 0
+    ∷ 2 ∷ 0 ∷ 48 ∷ 0 ∷ 1 ∷ 0
+    ∷ 3 ∷ 0 ∷ 58 ∷ 0 ∷ 1 ∷ 0
+    ∷ 4 ∷ 0 ∷ 60 ∷ 0 ∷ 0 ∷ 0
+    ∷ 5 ∷ 0 ∷ 60 ∷ 0 ∷ 0 ∷ 0
+    ∷ 6 ∷ 0 ∷ 60 ∷ 0 ∷ 1 ∷ 0
+    ∷ 7 ∷ 0 ∷ 64 ∷ 0 ∷ 1 ∷ 0
+    ∷ 0 ∷ 0
+    ∷ 0 ∷ 0 ∷ 0 ∷ 0 ∷ 0 ∷ 0 ∷ 0 ∷ 0 ∷ 0 ∷ 0
+    ∷ 0 ∷ 0
+    ∷ 0 ∷ 0 ∷ 0 ∷ 0
+    ∷ 0 ∷ 0
+    ∷ []
+
+-- one task with 21 doors of work 30, 29, .. 10, one start and one point with end cost 7: bodies 3 to 7 lie behind byte 255, at 258, 260, 260, 260 and 264
+abbrev manyDoors : List ℕ
+manyDoors =
+    1 ∷ 0 ∷ 0 ∷ 0
+    ∷ 1 ∷ 0 ∷ 46 ∷ 0 ∷ 1 ∷ 0
+    ∷ 2 ∷ 0 ∷ 48 ∷ 0 ∷ 21 ∷ 0
+    ∷ 3 ∷ 0 ∷ 2 ∷ 1 ∷ 1 ∷ 0
+    ∷ 4 ∷ 0 ∷ 4 ∷ 1 ∷ 0 ∷ 0
+    ∷ 5 ∷ 0 ∷ 4 ∷ 1 ∷ 0 ∷ 0
+    ∷ 6 ∷ 0 ∷ 4 ∷ 1 ∷ 1 ∷ 0
+    ∷ 7 ∷ 0 ∷ 8 ∷ 1 ∷ 1 ∷ 0
+    ∷ 0 ∷ 0
+    ∷ (flatMapBelow 21 (λ d. 0 ∷ 0 ∷ 0 ∷ 0 ∷ 0 ∷ 0 ∷ (30 - d) ∷ 0 ∷ 0 ∷ 0 ∷ []) ++ (0 ∷ 0 ∷ 7 ∷ 0 ∷ 0 ∷ 0 ∷ 0 ∷ 0 ∷ []))
+
+-- three tasks with a door each, of work 1, 2 and 4, one start, two points with end costs 5 and 9 that are 0 apart, and the pair (0, 1); a plan for it, of cost 12
+abbrev threeTasks : List ℕ
+threeTasks =
+    1 ∷ 0 ∷ 10 ∷ 0
+    ∷ 1 ∷ 0 ∷ 46 ∷ 0 ∷ 3 ∷ 0
+    ∷ 2 ∷ 0 ∷ 52 ∷ 0 ∷ 3 ∷ 0
+    ∷ 3 ∷ 0 ∷ 82 ∷ 0 ∷ 1 ∷ 0
+    ∷ 4 ∷ 0 ∷ 84 ∷ 0 ∷ 1 ∷ 0
+    ∷ 5 ∷ 0 ∷ 88 ∷ 0 ∷ 0 ∷ 0
+    ∷ 6 ∷ 0 ∷ 88 ∷ 0 ∷ 2 ∷ 0
+    ∷ 7 ∷ 0 ∷ 96 ∷ 0 ∷ 4 ∷ 0
+    ∷ 0 ∷ 0 ∷ 0 ∷ 0 ∷ 0 ∷ 0
+    ∷ 0 ∷ 0 ∷ 0 ∷ 0 ∷ 0 ∷ 0 ∷ 1 ∷ 0 ∷ 0 ∷ 0
+    ∷ 1 ∷ 0 ∷ 0 ∷ 0 ∷ 0 ∷ 0 ∷ 2 ∷ 0 ∷ 0 ∷ 0
+    ∷ 2 ∷ 0 ∷ 0 ∷ 0 ∷ 0 ∷ 0 ∷ 4 ∷ 0 ∷ 0 ∷ 0
+    ∷ 0 ∷ 0
+    ∷ 0 ∷ 0 ∷ 1 ∷ 0
+    ∷ 5 ∷ 0 ∷ 0 ∷ 0 ∷ 9 ∷ 0 ∷ 0 ∷ 0
+    ∷ 0 ∷ 0 ∷ 0 ∷ 0 ∷ 0 ∷ 0 ∷ 0 ∷ 0
+    ∷ []
+
+abbrev threeDoors : ℕ → ℕ → ℕ → List ℕ
+threeDoors d₁ d₂ d₃ =
+    2 ∷ 0 ∷ 0 ∷ 0 ∷ 1 ∷ 0 ∷ 22 ∷ 0 ∷ 1 ∷ 0 ∷ 2 ∷ 0
+    ∷ 24 ∷ 0 ∷ 3 ∷ 0 ∷ 3 ∷ 0 ∷ 30 ∷ 0 ∷ 1 ∷ 0 ∷ 0 ∷ 0
+    ∷ d₁ ∷ 0 ∷ d₂ ∷ 0 ∷ d₃ ∷ 0 ∷ 12 ∷ 0 ∷ 0 ∷ 0 ∷ 0 ∷ 0 ∷ 0 ∷ 0 ∷ []
+
+-- ---- the check
+
+unfoldable pub checkNeighbours : Bool
+checkNeighbours =
+    -- two numbers apply, and the first in the order tested is the answer: 10 and 11, .. 16 and 17
+    readingRefuses (readSheet (take 45 (changed 0 2))) 10
+    && readingRefuses (readSheet (set (changed 0 2) 8 13)) 11
+    && readingRefuses (readSheet (set (changed 8 13) 4 2)) 12
+    && readingRefuses (readSheet (set (changed 4 2) 60 2)) 13
+    && readingRefuses (readSheet (set (changed 60 0) 70 3)) 14
+    && readingRefuses (readSheet (set (changed 60 0) 2 2)) 15
+    && readingRefuses (readSheet (likeA 2 2 (pairBytes 0 1 ++ pairBytes 1 0) 0 [])) 16
+    -- 17 and 20 (20 and 21 stand among the starred sheet's neighbours); 17 and 30
+    && sameAnswer (plan ringed (take 11 cellNoise) byteNoise .answer) (refused 17)
+    && sameAnswer (validate ringed (take 35 planA)) (refused 17)
+    -- 30 and 31; 31 and 32, with start 1 and doors 0, 0; 32 and 33, driven 1, 0, 0, where 1, 0, 2 gets 33; 33 and 34
+    && sameAnswer (validate sheetA (take 35 (planLikeA 0 2 92))) (refused 30)
+    && sameAnswer (validate sheetA (set (planLikeA 0 0 92) 22 1)) (refused 31)
+    && sameAnswer (validate threeTasks (threeDoors 0 1 2)) (accepted 12)
+    && sameAnswer (validate threeTasks (threeDoors 1 0 2)) (refused 33)
+    && sameAnswer (validate threeTasks (threeDoors 1 0 0)) (refused 32)
+    && sameAnswer (validate paired (planLikeA 0 1 91)) (refused 33)
+    -- of plans: 12 and 21, 12 and 30
+    && sameAnswer (writePlan 13 0 byteNoise 92 (take 35 byteNoise) .answer) (refused 12)
+    && planRefuses (readPlan 13 13 (take 35 planA)) 12
+    -- 16 cells suffice for three tasks and two points, 15 give 20
+    && sameAnswer (plan threeTasks (take 16 byteNoise) byteNoise .answer) (accepted 12)
+    && sameAnswer (plan threeTasks (take 15 byteNoise) byteNoise .answer) (refused 20)
+    -- each number of entries at its limits, where the offsets no longer fit and 13 is due, and beyond: tasks, doors, starts, pairs, rules
+    && readingRefuses (readSheet (changed 8 0)) 12
+    && readingRefuses (readSheet (changed 8 1)) 13
+    && readingRefuses (readSheet (changed 8 12)) 13
+    && readingRefuses (readSheet (changed 8 13)) 12
+    && readingRefuses (readSheet (changed 14 0)) 12
+    && readingRefuses (readSheet (changed 14 1)) 13
+    && readingRefuses (readSheet (changed 14 64)) 13
+    && readingRefuses (readSheet (changed 14 65)) 12
+    && readingRefuses (readSheet (changed 20 0)) 12
+    && readingRefuses (readSheet (changed 20 16)) 13
+    && readingRefuses (readSheet (changed 20 17)) 12
+    && readingRefuses (readSheet (changed 26 32)) 13
+    && readingRefuses (readSheet (changed 26 33)) 12
+    && readingRefuses (readSheet (changed 32 32)) 13
+    && readingRefuses (readSheet (changed 32 33)) 12
+    -- points with P times P distances: none, 1, 64 and 65; and a distance too few or too many
+    && readingRefuses (readSheet (pointed 0 0 0)) 12
+    && readingRefuses (readSheet (pointed 1 1 0)) 13
+    && readingRefuses (readSheet (pointed 64 0 16)) 13
+    && readingRefuses (readSheet (pointed 65 129 16)) 12
+    && readingRefuses (readSheet (changed 44 8)) 12
+    && readingRefuses (readSheet (changed 44 10)) 12
+    && readingRefuses (readSheet (pointed 64 255 15)) 12
+    -- least counts 0, 12, which is above N, and 13; watched 0, 3 and 4
+    && readingRefuses (readSheet (ruled 2 0)) 14
+    && readingAnswers (readSheet (ruled 2 12)) 2 3
+    && readingRefuses (readSheet (ruled 2 13)) 14
+    && readingAnswers (readSheet (ruled 0 1)) 2 3
+    && readingAnswers (readSheet (ruled 3 1)) 2 3
+    && readingRefuses (readSheet (ruled 4 1)) 14
+    -- a repeated pair; a start listed twice, of which the earlier is planned
+    && sameAnswer (plan (likeA 10 2 (pairBytes 1 0 ++ pairBytes 1 0) 0 []) cellNoise byteNoise .answer) (accepted 126)
+    && sameAnswer (plan (set sheetB 82 1) cellNoise byteNoise .answer) (accepted 70314)
+    && eqb (getD (plan (set sheetB 82 1) cellNoise byteNoise .bytes) 22 9) 0
+    -- the second byte counts: kind 257, body number 257, offset 302, 258 tasks
+    && readingRefuses (readSheet (changed 1 1)) 11
+    && readingRefuses (readSheet (changed 5 1)) 13
+    && readingRefuses (readSheet (changed 7 1)) 13
+    && readingRefuses (readSheet (changed 9 1)) 12
+    -- sheets of 66 and of 266 bytes; an offset without its second byte
+    && eqb (length shortest) 66
+    && readingAnswers (readSheet shortest) 1 1
+    && eqb (length manyDoors) 266
+    && readingAnswers (readSheet manyDoors) 1 1
+    && sameAnswer (plan manyDoors (take 2 cellNoise) (take 34 byteNoise) .answer) (accepted 17)
+    && readingRefuses (readSheet (set manyDoors 19 0)) 13
