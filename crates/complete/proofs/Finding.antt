@@ -55,13 +55,13 @@ found-first n f t j l e =
 -- ---- the search
 
 -- the doors before the i-th do not have that cost
-pub record Passed (S : Sheet) (load : ℕ) (arrivals parts : List ℕ) (p cost i : ℕ) : Type 0 where
+pub record PassedOver (S : Sheet) (load : ℕ) (arrivals parts : List ℕ) (p cost i : ℕ) : Type 0 where
   pub missed : Missed cost (mapBelow (length parts) (throughGathered S load arrivals parts p)) i
 
-pub none-passed : (S : Sheet) (load : ℕ) (arrivals parts : List ℕ) (p cost : ℕ) → Passed S load arrivals parts p cost 0
+pub none-passed : (S : Sheet) (load : ℕ) (arrivals parts : List ℕ) (p cost : ℕ) → PassedOver S load arrivals parts p cost 0
 none-passed S load arrivals parts p cost = record { missed = record { within = omega arith; place = omega arith } }
 
-module _ {S : Sheet} {load : ℕ} {arrivals parts : List ℕ} {p cost i : ℕ} (h : Passed S load arrivals parts p cost i) where
+module _ {S : Sheet} {load : ℕ} {arrivals parts : List ℕ} {p cost i : ℕ} (h : PassedOver S load arrivals parts p cost i) where
   abbrev costs : List ℕ
   costs = mapBelow (length parts) (throughGathered S load arrivals parts p)
 
@@ -74,7 +74,7 @@ module _ {S : Sheet} {load : ℕ} {arrivals parts : List ℕ} {p cost i : ℕ} (
     unfolding throughGathered
     at-is = mapBelow-at (length parts) (throughGathered S load arrivals parts p) i 0 l ∙ sym e
 
-    pub pass-one : (c ≡ cost → ⊥) → Passed S load arrivals parts p cost (i + 1)
+    pub pass-one : (c ≡ cost → ⊥) → PassedOver S load arrivals parts p cost (i + 1)
     pass-one n = record { missed = index-next (h .missed) (omega (arith, size)) (λ q. n (sym at-is ∙ q)) }
 
     pub pass-here : c ≡ cost → i ≡ indexOf cost costs

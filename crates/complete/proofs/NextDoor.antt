@@ -20,7 +20,7 @@ use Rattle.model.proofs.Tests.{tested}
 use Rattle.model.proofs.Driving.{throughDoor, FirstDoor, first-door}
 use Rattle.view.specs.declared.View.{View}
 use Rattle.table.specs.Cells.{Shown, Fillable}
-use Rattle.table.proofs.Places.{passing-rises}
+use Rattle.table.proofs.PassingBelow.{passing-rises}
 use Rattle.table.proofs.Bellman.{throughNth, essential-size, first-at, first-place, through-is}
 
 -- d is the door with which the cheapest completion of K from p begins, and the rest is the cheapest completion from there

@@ -1,8 +1,8 @@
 -- The parts of a solution, as many doors as there are tasks, and that its numbers fit their places in a plan. Assumes nothing.
 use mathlib.Core.Path.{_≡_, sym, _∙_}
 use mathlib.Core.Bool.{true, _&&_}
-use mathlib.Core.List.{List, [], _∷_, map}
-use Prim.Native.Nat.{ℕ, zero, suc, _^_, _<_}
+use mathlib.Core.List.{List, map}
+use Prim.Native.Nat.{ℕ, _^_, _<_}
 use native.Mathlib.Omega.{arith}
 use lib.Dec.{ltb}
 use lib.ListN.{length, getD, length-map}
@@ -16,6 +16,7 @@ use Rattle.model.proofs.Tests.{and-left, and-right, and-both}
 use Rattle.model.proofs.Masks.{size-full}
 use Rattle.model.specs.Passing.{CountsWithin}
 use Rattle.model.proofs.Counting.{order-length}
+use Rattle.model.proofs.Positions.{passes-everywhere}
 
 pub record SolutionTests (S : Sheet) (s : ℕ) (ds : List ℕ) : Type 0 where
   pub start : s < S .starts
@@ -44,9 +45,7 @@ pub solution-length : (S : Sheet) (s : ℕ) (ds : List ℕ) → SolutionTests S 
 solution-length S s ds h = sym (length-map ds (S .task)) ∙ order-length (S .tasks) (full (S .tasks)) (map (S .task) ds) (h .order) ∙ size-full (S .tasks)
 
 element-lt : (n : ℕ) (ds : List ℕ) → allIn (λ d. ltb d n) ds ≡ true → (i : ℕ) → i < length ds → getD ds i 0 < n
-element-lt n [] h i l = absurd (omega arith)
-element-lt n (d ∷ ds) h zero l = ltb-true d n (and-left (ltb d n) (allIn (λ d. ltb d n) ds) h)
-element-lt n (d ∷ ds) h (suc i) l = element-lt n ds (and-right (ltb d n) (allIn (λ d. ltb d n) ds) h) i (omega arith)
+element-lt n ds h i l = ltb-true _ _ (passes-everywhere (λ d. ltb d n) ds h i l)
 
 -- the start and the doors of a solution fit 16 bits
 pub solution-fits : (S : Sheet) → CountsWithin S → (s : ℕ) (ds : List ℕ) → SolutionTests S s ds → (s < 2 ^ 16) × ((i : ℕ) → i < S .tasks → getD ds i 0 < 2 ^ 16)

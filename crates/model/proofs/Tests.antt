@@ -7,7 +7,7 @@ use Prim.Native.Nat.{ℕ, zero, suc, _+_, _≤_, _<_}
 use native.Mathlib.Omega.{arith}
 use native.Mathlib.Numerals.{add-one}
 use lib.Dec.{eqb, ltb, leb}
-use borrow.Author.Tests.{eqb-true, eqb-false, eq-eqb, leb-true, lt-ltb, le-ltb, leb-false, le-leb}
+use borrow.Author.Tests.{not-true, not-false, eqb-true, eqb-false, eq-eqb, leb-true, lt-ltb, le-ltb, leb-false, le-leb}
 use Rattle.model.specs.Folds.{allBelow, anyBelow, isBetween, allIn, sameList}
 
 -- a test, with its outcome
@@ -166,14 +166,10 @@ any-true n test i l h = ⊎-elim
     (tested (anyBelow n test))
 
 pub one-passes : (n : ℕ) (test : ℕ → Bool) → anyBelow n test ≡ true → (i : ℕ) × (i < n) × (test i ≡ true)
-one-passes zero test h = absurd (false≢true h)
-one-passes (suc n) test h = go (one-passes n test) (anyBelow n test) refl (test n) refl h
-  where
-    go : (anyBelow n test ≡ true → (i : ℕ) × (i < n) × (test i ≡ true)) → (a : Bool) → anyBelow n test ≡ a → (b : Bool) → test n ≡ b → (a || b) ≡ true
-        → (i : ℕ) × (i < suc n) × (test i ≡ true)
-    go ih true ea b eb h = let r = ih ea in (r .0, omega (arith, r .1), r .2)
-    go ih false ea true eb h = (n, omega arith, eb)
-    go ih false ea false eb h = absurd (false≢true h)
+one-passes n test h = ⊎-elim
+    (λ (w : allBelow n (λ i. not (test i)) ≡ true). absurd (not-both h (none-below n test (λ i l. not-true (test i) (all-at n (λ i. not (test i)) w i l)))))
+    (λ (w : allBelow n (λ i. not (test i)) ≡ false). let r = one-fails n (λ i. not (test i)) w in (r .0, r .1, not-false (test (r .0)) (r .2)))
+    (tested (allBelow n (λ i. not (test i))))
 
 -- a test that fails exactly where a fact holds passes exactly where it does not
 pub passes-unless : {R : Type 0} (t : Bool) → (t ≡ false) ↔ R → (t ≡ true) ↔ (R → ⊥)

@@ -1,7 +1,7 @@
 -- Sheet A and its neighbours: the starred lines, by one computed check on the definitions (01, Sheet A and its neighbours, which every definition here is from but sheet B). Assumes nothing.
 use mathlib.Core.Bool.{Bool, false, _&&_}
 use mathlib.Core.List.{List, [], _∷_, _++_}
-use Prim.Native.Nat.{ℕ, _+_, _*_}
+use Prim.Native.Nat.{ℕ, _+_, _*_, _/_, _%_}
 use lib.Dec.{eqb}
 use lib.ListN.{length, set, take}
 use Rattle.model.specs.Folds.{sameList}
@@ -40,26 +40,40 @@ sheetA =
     ∷ 3 ∷ 0 ∷ 4 ∷ 0 ∷ 0 ∷ 0
     ∷ []
 
+-- a number of two bytes
+abbrev two : ℕ → List ℕ
+two n = n % 256 ∷ n / 256 ∷ []
+
+-- contents line i, of a body at a place with so many entries
+abbrev line : ℕ → ℕ → ℕ → List ℕ
+line i place count = two i ++ two place ++ two count
+
+-- the first 46 bytes of a sheet with end load e and n tasks, d doors, s starts, q pairs, r rules and p points
+abbrev pub headOf : ℕ → ℕ → ℕ → ℕ → ℕ → ℕ → ℕ → List ℕ
+headOf e n d s q r p =
+    two 1 ++ two e
+    ++ line 1 46 n
+    ++ line 2 (46 + 2 * n) d
+    ++ line 3 (46 + 2 * n + 10 * d) s
+    ++ line 4 (46 + 2 * n + 10 * d + 2 * s) q
+    ++ line 5 (46 + 2 * n + 10 * d + 2 * s + 4 * q) r
+    ++ line 6 (46 + 2 * n + 10 * d + 2 * s + 4 * q + 10 * r) p
+    ++ line 7 (46 + 2 * n + 10 * d + 2 * s + 4 * q + 10 * r + 4 * p) (p * p)
+
 -- A with end load e, and with so many pairs and rules, whose bytes are given. With 10 and none it is A again, which the check compares
 abbrev pub likeA : ℕ → ℕ → List ℕ → ℕ → List ℕ → List ℕ
 likeA e pairs pairBytes rules ruleBytes =
-    1 ∷ 0 ∷ e ∷ 0
-    ∷ 1 ∷ 0 ∷ 46 ∷ 0 ∷ 2 ∷ 0
-    ∷ 2 ∷ 0 ∷ 50 ∷ 0 ∷ 2 ∷ 0
-    ∷ 3 ∷ 0 ∷ 70 ∷ 0 ∷ 1 ∷ 0
-    ∷ 4 ∷ 0 ∷ 72 ∷ 0 ∷ pairs ∷ 0
-    ∷ 5 ∷ 0 ∷ (72 + 4 * pairs) ∷ 0 ∷ rules ∷ 0
-    ∷ 6 ∷ 0 ∷ (72 + 4 * pairs + 10 * rules) ∷ 0 ∷ 3 ∷ 0
-    ∷ 7 ∷ 0 ∷ (84 + 4 * pairs + 10 * rules) ∷ 0 ∷ 9 ∷ 0
-    ∷ 5 ∷ 0 ∷ 253 ∷ 255
+    headOf e 2 2 1 pairs rules 3
+    ++ (5 ∷ 0 ∷ 253 ∷ 255
     ∷ 0 ∷ 0 ∷ 1 ∷ 0 ∷ 1 ∷ 0 ∷ 4 ∷ 0 ∷ 0 ∷ 0
     ∷ 1 ∷ 0 ∷ 2 ∷ 0 ∷ 2 ∷ 0 ∷ 6 ∷ 0 ∷ 0 ∷ 0
-    ∷ 0 ∷ 0 ∷ (pairBytes ++ ruleBytes ++
-    (0 ∷ 0 ∷ 0 ∷ 0 ∷ 20 ∷ 0 ∷ 0 ∷ 0 ∷ 30 ∷ 0 ∷ 0 ∷ 0
+    ∷ 0 ∷ 0 ∷ [])
+    ++ pairBytes ++ ruleBytes
+    ++ (0 ∷ 0 ∷ 0 ∷ 0 ∷ 20 ∷ 0 ∷ 0 ∷ 0 ∷ 30 ∷ 0 ∷ 0 ∷ 0
     ∷ 0 ∷ 0 ∷ 2 ∷ 0 ∷ 3 ∷ 0
     ∷ 2 ∷ 0 ∷ 0 ∷ 0 ∷ 4 ∷ 0
     ∷ 3 ∷ 0 ∷ 4 ∷ 0 ∷ 0 ∷ 0
-    ∷ []))
+    ∷ [])
 
 abbrev pub pairBytes : ℕ → ℕ → List ℕ
 pairBytes sender receiver = sender ∷ 0 ∷ receiver ∷ 0 ∷ []

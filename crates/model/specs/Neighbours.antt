@@ -4,14 +4,14 @@ use mathlib.Core.Bool.{Bool, _&&_}
 use mathlib.Core.List.{List, [], _∷_, _++_}
 use Prim.Native.Nat.{ℕ, _-_}
 use lib.Dec.{eqb}
-use lib.ListN.{length, getD, set, take}
-use Rattle.model.specs.Folds.{flatMapBelow}
+use lib.ListN.{length, getD, set, take, drop}
+use Rattle.model.specs.Folds.{flatMapBelow, sameList}
 use Rattle.model.specs.Answer.{refused, accepted}
 use Rattle.model.specs.Faults.{readSheet}
 use Rattle.model.specs.PlanLayout.{writePlan, readPlan}
 use Rattle.model.specs.Validating.{validate}
 use Rattle.model.specs.Planning.{plan}
-use Rattle.model.specs.Examples.{sheetA, likeA, pairBytes, ruleBytes, paired, ringed, sheetB, cellNoise, byteNoise, planA, planLikeA, sameAnswer, readingRefuses, readingAnswers, planRefuses}
+use Rattle.model.specs.Examples.{sheetA, headOf, likeA, pairBytes, ruleBytes, paired, ringed, sheetB, cellNoise, byteNoise, planA, planLikeA, sameAnswer, readingRefuses, readingAnswers, planRefuses}
 
 -- ---- sheets
 
@@ -30,47 +30,30 @@ ruled watched leastCount = likeA 10 0 [] 1 (ruleBytes 0 watched leastCount 50)
 -- the shortest sheet: one task, door, start and point
 abbrev shortest : List ℕ
 shortest =
-    1 ∷ 0 ∷ 0 ∷ 0
-    ∷ 1 ∷ 0 ∷ 46 ∷ 0 ∷ 1 ∷ 0
-    ∷ 2 ∷ 0 ∷ 48 ∷ 0 ∷ 1 ∷ 0
-    ∷ 3 ∷ 0 ∷ 58 ∷ 0 ∷ 1 ∷ 0
-    ∷ 4 ∷ 0 ∷ 60 ∷ 0 ∷ 0 ∷ 0
-    ∷ 5 ∷ 0 ∷ 60 ∷ 0 ∷ 0 ∷ 0
-    ∷ 6 ∷ 0 ∷ 60 ∷ 0 ∷ 1 ∷ 0
-    ∷ 7 ∷ 0 ∷ 64 ∷ 0 ∷ 1 ∷ 0
-    ∷ 0 ∷ 0
+    headOf 0 1 1 1 0 0 1
+    ++ (0 ∷ 0
     ∷ 0 ∷ 0 ∷ 0 ∷ 0 ∷ 0 ∷ 0 ∷ 0 ∷ 0 ∷ 0 ∷ 0
     ∷ 0 ∷ 0
     ∷ 0 ∷ 0 ∷ 0 ∷ 0
     ∷ 0 ∷ 0
-    ∷ []
+    ∷ [])
 
 -- one task with 21 doors of work 30, 29, .. 10, one start and one point with end cost 7: bodies 3 to 7 lie behind byte 255, at 258, 260, 260, 260 and 264
 abbrev manyDoors : List ℕ
 manyDoors =
-    1 ∷ 0 ∷ 0 ∷ 0
-    ∷ 1 ∷ 0 ∷ 46 ∷ 0 ∷ 1 ∷ 0
-    ∷ 2 ∷ 0 ∷ 48 ∷ 0 ∷ 21 ∷ 0
-    ∷ 3 ∷ 0 ∷ 2 ∷ 1 ∷ 1 ∷ 0
-    ∷ 4 ∷ 0 ∷ 4 ∷ 1 ∷ 0 ∷ 0
-    ∷ 5 ∷ 0 ∷ 4 ∷ 1 ∷ 0 ∷ 0
-    ∷ 6 ∷ 0 ∷ 4 ∷ 1 ∷ 1 ∷ 0
-    ∷ 7 ∷ 0 ∷ 8 ∷ 1 ∷ 1 ∷ 0
+    headOf 0 1 21 1 0 0 1
+    ++ (0 ∷ 0 ∷ [])
+    ++ flatMapBelow 21 (λ d. 0 ∷ 0 ∷ 0 ∷ 0 ∷ 0 ∷ 0 ∷ (30 - d) ∷ 0 ∷ 0 ∷ 0 ∷ [])
+    ++ (0 ∷ 0
+    ∷ 7 ∷ 0 ∷ 0 ∷ 0
     ∷ 0 ∷ 0
-    ∷ (flatMapBelow 21 (λ d. 0 ∷ 0 ∷ 0 ∷ 0 ∷ 0 ∷ 0 ∷ (30 - d) ∷ 0 ∷ 0 ∷ 0 ∷ []) ++ (0 ∷ 0 ∷ 7 ∷ 0 ∷ 0 ∷ 0 ∷ 0 ∷ 0 ∷ []))
+    ∷ [])
 
 -- three tasks with a door each, of work 1, 2 and 4, one start, two points with end costs 5 and 9 that are 0 apart, and the pair (0, 1); a plan for it, of cost 12
 abbrev threeTasks : List ℕ
 threeTasks =
-    1 ∷ 0 ∷ 10 ∷ 0
-    ∷ 1 ∷ 0 ∷ 46 ∷ 0 ∷ 3 ∷ 0
-    ∷ 2 ∷ 0 ∷ 52 ∷ 0 ∷ 3 ∷ 0
-    ∷ 3 ∷ 0 ∷ 82 ∷ 0 ∷ 1 ∷ 0
-    ∷ 4 ∷ 0 ∷ 84 ∷ 0 ∷ 1 ∷ 0
-    ∷ 5 ∷ 0 ∷ 88 ∷ 0 ∷ 0 ∷ 0
-    ∷ 6 ∷ 0 ∷ 88 ∷ 0 ∷ 2 ∷ 0
-    ∷ 7 ∷ 0 ∷ 96 ∷ 0 ∷ 4 ∷ 0
-    ∷ 0 ∷ 0 ∷ 0 ∷ 0 ∷ 0 ∷ 0
+    headOf 10 3 3 1 1 0 2
+    ++ (0 ∷ 0 ∷ 0 ∷ 0 ∷ 0 ∷ 0
     ∷ 0 ∷ 0 ∷ 0 ∷ 0 ∷ 0 ∷ 0 ∷ 1 ∷ 0 ∷ 0 ∷ 0
     ∷ 1 ∷ 0 ∷ 0 ∷ 0 ∷ 0 ∷ 0 ∷ 2 ∷ 0 ∷ 0 ∷ 0
     ∷ 2 ∷ 0 ∷ 0 ∷ 0 ∷ 0 ∷ 0 ∷ 4 ∷ 0 ∷ 0 ∷ 0
@@ -78,7 +61,7 @@ threeTasks =
     ∷ 0 ∷ 0 ∷ 1 ∷ 0
     ∷ 5 ∷ 0 ∷ 0 ∷ 0 ∷ 9 ∷ 0 ∷ 0 ∷ 0
     ∷ 0 ∷ 0 ∷ 0 ∷ 0 ∷ 0 ∷ 0 ∷ 0 ∷ 0
-    ∷ []
+    ∷ [])
 
 abbrev threeDoors : ℕ → ℕ → ℕ → List ℕ
 threeDoors d₁ d₂ d₃ =
@@ -158,6 +141,7 @@ checkNeighbours =
     && eqb (length shortest) 66
     && readingAnswers (readSheet shortest) 1 1
     && eqb (length manyDoors) 266
+    && sameList (take 36 (drop 10 manyDoors)) (2 ∷ 0 ∷ 48 ∷ 0 ∷ 21 ∷ 0 ∷ 3 ∷ 0 ∷ 2 ∷ 1 ∷ 1 ∷ 0 ∷ 4 ∷ 0 ∷ 4 ∷ 1 ∷ 0 ∷ 0 ∷ 5 ∷ 0 ∷ 4 ∷ 1 ∷ 0 ∷ 0 ∷ 6 ∷ 0 ∷ 4 ∷ 1 ∷ 1 ∷ 0 ∷ 7 ∷ 0 ∷ 8 ∷ 1 ∷ 1 ∷ 0 ∷ [])
     && readingAnswers (readSheet manyDoors) 1 1
     && sameAnswer (plan manyDoors (take 2 cellNoise) (take 34 byteNoise) .answer) (accepted 17)
     && readingRefuses (readSheet (set manyDoors 19 0)) 13

@@ -24,7 +24,8 @@ use Rattle.gather.specs.Gathering.{restAt, partWith, partOf, Gatherable}
 use Rattle.row.specs.Leasts.{throughPoint, throughGathered, leastFrom, Gathered}
 use Rattle.table.specs.Cells.{restRows, Shown, Fillable}
 use Rattle.table.proofs.Minimums.{least-mapped}
-use Rattle.table.proofs.Places.{map-at, passing-at, passing-place}
+use Rattle.model.proofs.Positions.{map-at}
+use Rattle.table.proofs.PassingBelow.{passing-at, passing-place}
 
 -- ---- what is gathered with K open
 

@@ -1,6 +1,6 @@
 pub mod Parts
 pub mod Filling
-pub mod Places
+pub mod PassingBelow
 pub mod Minimums
 pub mod Bellman
 pub mod ListRows

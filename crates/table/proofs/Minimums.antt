@@ -6,7 +6,7 @@ use native.Mathlib.Omega.{arith}
 use lib.ListN.{length, getD, length-map}
 use Rattle.model.specs.Folds.{least}
 use Rattle.row.specs.Leasts.{largest, leastBelow}
-use Rattle.table.proofs.Places.{map-at}
+use Rattle.model.proofs.Positions.{map-at}
 
 pub least-cong : (n : ℕ) (f g : ℕ → ℕ) → ((i : ℕ) → i < n → f i ≡ g i) → leastBelow n f ≡ leastBelow n g
 least-cong zero f g h = refl

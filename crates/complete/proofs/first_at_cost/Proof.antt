@@ -4,12 +4,12 @@ use lib.ListN.{length}
 use borrow.Author.Needs.{needs}
 use Rattle.model.specs.SheetLayout.{decode}
 use Rattle.row.proofs.Running.{gathered-door}
-use Rattle.complete.proofs.Finding.{Passed, none-passed, pass-one, pass-here, pass-none}
+use Rattle.complete.proofs.Finding.{PassedOver, none-passed, pass-one, pass-here, pass-none}
 use Rattle.complete.proofs.first_at_cost.Statement.{statement}
 use Rattle.complete.proofs.first_at_cost.Tie as tie
 
 abbrev Inv-loop : tie.InvT-loop
-Inv-loop s v load arrivals parts p cost i₀ i = Passed (decode s) load arrivals parts p cost i
+Inv-loop s v load arrivals parts p cost i₀ i = PassedOver (decode s) load arrivals parts p cost i
 
 abbrev μ-loop : tie.MeasureT-loop
 μ-loop s v load arrivals parts p cost i₀ i = length parts - i

@@ -5,14 +5,14 @@ use mathlib.Core.Bool.{Bool, false, not}
 use mathlib.Core.List.{List}
 use Prim.Native.Nat.{ℕ, _≤_}
 use lib.Dec.{eqb}
+use lib.ListN.{drop}
 use Rattle.model.specs.Method.{maxListed, strikeOff, somethingLeft}
 use Rattle.model.specs.Orders.{noOrder}
-use Rattle.model.specs.Answer.{Answer, accepted}
+use Rattle.model.specs.Answer.{Answer, accepted, refuseFirst}
 use Rattle.model.specs.SheetLayout.{layoutOf, decode}
-use Rattle.model.specs.Faults.{tooShort, wrongKind, someWrongEntries, wrongPlaces, outOfRange, tooLight, sheetTests, unlessFault, Counts, readSheet}
+use Rattle.model.specs.Faults.{tooShort, wrongKind, someWrongEntries, wrongPlaces, outOfRange, someLacksDoor, tooLight, sheetTests, unlessFault, Counts, readSheet}
 use Rattle.model.proofs.Entries.{entries-within, tasks-listed, counts-within}
 use Rattle.model.proofs.Ranges.{in-range}
-use Rattle.model.proofs.Reading.{Cleared, Reads, passed-then, light-then, reads-then}
 use Rattle.model.proofs.NoOrder.{struck-off}
 use Rattle.model.proofs.Masks.{full-of}
 use borrow.Author.Needs.{needs}
@@ -57,20 +57,8 @@ places c = sym (c .before .wrong-places .ensures) ∙ c .if4 .left
 ranges : (c : tie.Else5) → outOfRange (layoutOf (bytes5 c)) (decode (bytes5 c)) ≡ false
 ranges c = sym (c .before .out-of-range .ensures) ∙ c .if5 .left
 
-passed : (c : tie.Else6) → Cleared (bytes6 c)
-passed c =
-    let e5 = c .before .before .before in
-    let e4 = e5 .before .before in
-    let e3 = e4 .before .before in
-    let e2 = e3 .before .before in
-    record {
-      long = long (e2 .before .before);
-      kind = kind e2;
-      counts = counts e3;
-      places = places e4;
-      ranges = ranges e5;
-      doors = sym (c .before .before .some-lacks-door .ensures) ∙ c .if6 .left;
-    }
+doors : (c : tie.Else6) → someLacksDoor (decode (bytes6 c)) ≡ false
+doors c = sym (c .before .before .some-lacks-door .ensures) ∙ c .if6 .left
 
 light : (c : tie.Else7) → tooLight (decode (bytes6 (c .before))) ≡ false
 light c = sym (c .before .before .too-light .ensures) ∙ c .if7 .left
@@ -83,9 +71,48 @@ order-left e6 t h =
     let S = decode (bytes6 e6) in
     struck-off S (in-range (layoutOf (bytes6 e6)) S (ranges e5)) ∙ sym (h ∙ ap (λ (K : ℕ). not (eqb (strikeOff S (S .tasks) K) 0)) (full-of (S .tasks) (few (e5 .before .before .before .before))))
 
--- what a sheet that reads is answered with
+ordered : (c : tie.Else8) → noOrder (decode (bytes6 (c .before .before .before))) ≡ false
+ordered c = order-left (c .before .before .before) _ (c .before .something-left .ensures) ∙ c .if8 .left
+
+-- ---- what the tests that are left answer, once so many were passed
+
 abbrev answer : ℕ → ℕ → Answer Counts
 answer n p = accepted (record { tasks = n; points = p })
+
+abbrev rest : ℕ → List ℕ → Answer Counts
+rest k b = refuseFirst (drop k (sheetTests b)) (answer (decode b .tasks) (decode b .points))
+
+rest1 : (c : tie.Else1) → readSheet (bytes1 c) ≡ rest 1 (bytes1 c)
+unfolding readSheet unlessFault sheetTests
+rest1 c = rw (long c)
+
+rest2 : (c : tie.Else2) → readSheet (bytes2 c) ≡ rest 2 (bytes2 c)
+unfolding sheetTests
+rest2 c = rest1 (c .before .before) ∙ rw (kind c)
+
+rest3 : (c : tie.Else3) → readSheet (bytes3 c) ≡ rest 3 (bytes3 c)
+unfolding sheetTests
+rest3 c = rest2 (c .before .before) ∙ rw (counts c)
+
+rest4 : (c : tie.Else4) → readSheet (bytes4 c) ≡ rest 4 (bytes4 c)
+unfolding sheetTests
+rest4 c = rest3 (c .before .before) ∙ rw (places c)
+
+rest5 : (c : tie.Else5) → readSheet (bytes5 c) ≡ rest 5 (bytes5 c)
+unfolding sheetTests
+rest5 c = rest4 (c .before .before) ∙ rw (ranges c)
+
+rest6 : (c : tie.Else6) → readSheet (bytes6 c) ≡ rest 6 (bytes6 c)
+unfolding sheetTests
+rest6 c = rest5 (c .before .before .before) ∙ rw (doors c)
+
+rest7 : (c : tie.Else7) → readSheet (bytes6 (c .before)) ≡ rest 7 (bytes6 (c .before))
+unfolding sheetTests
+rest7 c = rest6 (c .before) ∙ rw (light c)
+
+rest8 : (c : tie.Else8) → readSheet (bytes6 (c .before .before .before)) ≡ rest 8 (bytes6 (c .before .before .before))
+unfolding sheetTests
+rest8 c = rest7 (c .before .before) ∙ rw (ordered c)
 
 -- ---- the answers
 
@@ -100,38 +127,29 @@ wrong-kind-requires : tie.Need-wrong-kind-requires
 wrong-kind-requires c κs = search needs
 
 returns-2 : tie.Need-returns-2
-unfolding sheetTests unlessFault readSheet
-returns-2 c = rw (long (c .before .before), sym (c .before .wrong-kind .ensures) ∙ c .if2 .taken)
+unfolding sheetTests
+returns-2 c = sym (rest1 (c .before .before) ∙ rw (sym (c .before .wrong-kind .ensures) ∙ c .if2 .taken))
 
 some-wrong-entries-requires : tie.Need-some-wrong-entries-requires
 some-wrong-entries-requires c κs = search needs
 
 returns-3 : tie.Need-returns-3
-unfolding sheetTests unlessFault readSheet
-returns-3 c =
-    let e2 = c .before .before in
-    rw (long (e2 .before .before), kind e2, sym (c .before .some-wrong-entries .ensures) ∙ c .if3 .taken)
+unfolding sheetTests
+returns-3 c = sym (rest2 (c .before .before) ∙ rw (sym (c .before .some-wrong-entries .ensures) ∙ c .if3 .taken))
 
 wrong-places-requires : tie.Need-wrong-places-requires
 wrong-places-requires c κs = search needs
 
 returns-4 : tie.Need-returns-4
-unfolding sheetTests unlessFault readSheet
-returns-4 c =
-    let e3 = c .before .before in
-    let e2 = e3 .before .before in
-    rw (long (e2 .before .before), kind e2, counts e3, sym (c .before .wrong-places .ensures) ∙ c .if4 .taken)
+unfolding sheetTests
+returns-4 c = sym (rest3 (c .before .before) ∙ rw (sym (c .before .wrong-places .ensures) ∙ c .if4 .taken))
 
 out-of-range-requires : tie.Need-out-of-range-requires
 out-of-range-requires c κs = few (c .before .before)
 
 returns-5 : tie.Need-returns-5
-unfolding sheetTests unlessFault readSheet
-returns-5 c =
-    let e4 = c .before .before in
-    let e3 = e4 .before .before in
-    let e2 = e3 .before .before in
-    rw (long (e2 .before .before), kind e2, counts e3, places e4, sym (c .before .out-of-range .ensures) ∙ c .if5 .taken)
+unfolding sheetTests
+returns-5 c = sym (rest4 (c .before .before) ∙ rw (sym (c .before .out-of-range .ensures) ∙ c .if5 .taken))
 
 some-lacks-door-requires : tie.Need-some-lacks-door-requires
 some-lacks-door-requires c κs = search needs
@@ -140,26 +158,19 @@ too-light-requires : tie.Need-too-light-requires
 too-light-requires c κs = search needs
 
 returns-6 : tie.Need-returns-6
-unfolding sheetTests unlessFault readSheet
-returns-6 c =
-    let e5 = c .before .before .before in
-    let e4 = e5 .before .before in
-    let e3 = e4 .before .before in
-    let e2 = e3 .before .before in
-    rw (long (e2 .before .before), kind e2, counts e3, places e4, ranges e5, sym (c .before .before .some-lacks-door .ensures) ∙ c .if6 .taken)
+unfolding sheetTests
+returns-6 c = sym (rest5 (c .before .before .before) ∙ rw (sym (c .before .before .some-lacks-door .ensures) ∙ c .if6 .taken))
 
 returns-7 : tie.Need-returns-7
-unfolding sheetTests unlessFault readSheet
-returns-7 c = sym (passed-then (bytes6 (c .before)) _ (passed (c .before)) ∙ rw (sym (c .before .before .too-light .ensures) ∙ c .if7 .taken))
+unfolding sheetTests
+returns-7 c = sym (rest6 (c .before) ∙ rw (sym (c .before .before .too-light .ensures) ∙ c .if7 .taken))
 
 something-left-requires : tie.Need-something-left-requires
 something-left-requires c κs = search needs
 
 returns-8 : tie.Need-returns-8
-unfolding sheetTests unlessFault readSheet
-returns-8 c =
-    let e7 = c .before .before in
-    sym (light-then (bytes6 (e7 .before)) _ (passed (e7 .before)) (light e7) ∙ rw (order-left (e7 .before) _ (c .before .something-left .ensures) ∙ c .if8 .taken))
+unfolding sheetTests
+returns-8 c = sym (rest7 (c .before .before) ∙ rw (order-left (c .before .before .before) _ (c .before .something-left .ensures) ∙ c .if8 .taken))
 
 tasks-requires : tie.Need-tasks-requires
 tasks-requires c κs = search needs
@@ -168,17 +179,8 @@ points-requires : tie.Need-points-requires
 points-requires c κs = search needs
 
 returns-9 : tie.Need-returns-9
-unfolding readSheet
-returns-9 c =
-    let e8 = c .before .before in
-    let e7 = e8 .before .before in
-    let e6 = e7 .before in
-    let reads : Reads (bytes6 e6) = record {
-      passed-tests = passed e6;
-      light = light e7;
-      ordered = order-left e6 _ (e8 .before .something-left .ensures) ∙ e8 .if8 .left;
-    } in
-    ap₂ answer (c .before .tasks .ensures) (c .points .ensures) ∙ sym (reads-then (bytes6 e6) _ reads)
+unfolding sheetTests
+returns-9 c = ap₂ answer (c .before .tasks .ensures) (c .points .ensures) ∙ sym (rest8 (c .before .before))
 
 pub read-spec : {M : Type 1} → statement M
 read-spec =

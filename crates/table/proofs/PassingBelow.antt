@@ -2,19 +2,13 @@
 use mathlib.Core.Path.{_≡_, refl, sym, ap, _∙_}
 use mathlib.Core.Logic.{⊎-elim}
 use mathlib.Core.Bool.{Bool, true, false}
-use mathlib.Core.List.{List, [], _∷_, _++_, map, append-nil}
+use mathlib.Core.List.{[], _∷_, _++_, append-nil}
 use Prim.Native.Nat.{ℕ, zero, suc, _<_}
 use native.Mathlib.Omega.{arith}
 use lib.ListN.{length, getD, length-append, List·getD-append}
 use lib.Seq.{getD-at}
 use Rattle.model.specs.Folds.{passingBelow}
-use Rattle.model.proofs.Tests.{eq-or-lt, not-both}
-
--- a list mapped, place by place
-pub map-at : (f : ℕ → ℕ) (xs : List ℕ) (i : ℕ) → i < length xs → getD (map f xs) i 0 ≡ f (getD xs i 0)
-map-at f [] i l = absurd (omega arith)
-map-at f (x ∷ xs) zero l = refl
-map-at f (x ∷ xs) (suc i) l = map-at f xs i (omega arith)
+use Rattle.model.proofs.Tests.{not-both, eq-or-lt}
 
 module _ (test : ℕ → Bool) where
   -- one number more: it passes and comes last, or it does not
