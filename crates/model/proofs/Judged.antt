@@ -16,7 +16,7 @@ use Rattle.model.specs.Validating.{notInSheet, doneTwice, breaksPair, wr
 use Rattle.model.specs.Folds.{mapBelow, countOf, indexOf}
 use Rattle.model.specs.Plans.{inSheet}
 use Rattle.model.specs.Orders.{isOrder, keepsPair, keepsEveryPair, isAdmissible, noOrder}
-use Rattle.model.specs.Figures.{tasksStated, doorsStated, LaidOut, startStated, doorStated, ValidatingApplies, AnswersBy}
+use Rattle.model.specs.Figures.{tasksStated, doorsStated, LaidOut, startStated, doorStated, ValidatingApplies, AnswersBy, FiguresHold}
 use Rattle.model.specs.Answer.{accepted, Test}
 use Rattle.model.specs.PlanLayout.{planStartAt, planDoorsAt, planCostAt, illFormed, startIn, doorIn, doorsIn, costIn}
 use Rattle.model.specs.SheetLayout.{lineAt, entries, decodeBy, layoutOf, decode}
@@ -31,7 +31,8 @@ use Rattle.model.proofs.Validating.{tasks-below}
 use Rattle.model.proofs.Refusing.{Applies, refuse-append, applies-append, pass-none, answers-by}
 use Rattle.model.proofs.Reading.{Reads, all-reads, counts-read, sheet-within}
 use Rattle.model.proofs.Ranges.{in-range}
-use Rattle.model.proofs.Figures.{sheet-applies, rising-sheet, well-formed}
+use Rattle.model.proofs.Figures.{stands-at, sheet-applies, reading-answers, rising-sheet, planning-answers, writing-answers, well-formed, plan-reading-answers, writing-twelve, reading-twelve}
+use Rattle.model.proofs.Printing.{cut-input}
 
 -- ---- the tasks as driven, by their places
 
@@ -233,3 +234,17 @@ module _ (b q : List ℕ) where
   unfolding validate unlessFault planTests routeTests
   validating-answers = rw (refuse-append (sheetTests b) (planTests (decode b) q) (accepted (costIn (decode b .tasks) q)))
       (answers-by both _ (ValidatingApplies b q) (rising-sheet b _ (lit< tt, (lit< tt, (lit< tt, (lit< tt, (lit< tt, tt)))))) (λ p. (_, refl)) validating-applies)
+
+-- ---- all of document 01's figures
+pub figures : FiguresHold
+figures = record {
+  stands-at = stands-at;
+  reading = reading-answers;
+  planning = planning-answers;
+  validating = validating-answers;
+  writing-a-plan = writing-answers;
+  reading-a-plan = plan-reading-answers;
+  writing-twelve = writing-twelve;
+  reading-twelve = reading-twelve;
+  cut-input = cut-input;
+}

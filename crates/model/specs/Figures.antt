@@ -1,6 +1,6 @@
--- Document 01's own figures: where each number of a sheet stands, and what each number that a call can answer with means, in plain facts. For each call the
--- theorem of its name in proofs/Figures.antt shows that it is refused and accepted exactly so. No figure here comes from the table of SheetLayout.antt, and no
--- order from a list of tests (01, Layout of a task sheet, Layout of a plan and Numbers a call can answer with). Assumes nothing.
+-- Document 01's own figures: where each number of a sheet stands, and what each number that a call can answer with means, in plain facts. No figure here comes from
+-- the table of SheetLayout.antt, and no order from a list of tests. `figures` proves `FiguresHold`, which is all of it (01, Layout of a task sheet, Layout of a plan
+-- and Numbers a call can answer with). Assumes nothing.
 use mathlib.Core.Path.{_≡_}
 use mathlib.Core.Logic.{_↔_}
 use mathlib.Core.Bool.{true}
@@ -15,6 +15,11 @@ use Rattle.model.specs.Bytes.{numberAt, signed}
 use Rattle.model.specs.Answer.{Answer, refused, accepted, status}
 use Rattle.model.specs.SheetLayout.{decode}
 use Rattle.model.specs.Passing.{InRange, down}
+use Rattle.model.specs.Planning.{plan}
+use Rattle.model.specs.Printing.{printedWith, printed}
+use Rattle.model.specs.PlanLayout.{writePlan, readPlan}
+use Rattle.model.specs.Faults.{readSheet}
+use Rattle.model.specs.Validating.{validate}
 
 -- ---- where the numbers of a sheet stand
 
@@ -166,7 +171,7 @@ doorStated q i = numberAt 2 q (24 + 2 * i)
 abbrev pub costStated : ℕ → List ℕ → ℕ
 costStated n q = numberAt 8 q (24 + 2 * n)
 
--- r applies to the plan q for the sheet b, of n tasks and what the sheet says
+-- r applies to the plan q for the sheet b
 pub data ValidatingApplies (b q : List ℕ) (r : ℕ) : Type 0 where
   sheet : SheetApplies b r → ValidatingApplies b q r
   -- 30: the plan's length or any byte before 22 is not as laid out for this N
@@ -213,3 +218,22 @@ pub record AnswersBy {A : Type 0} (applies : ℕ → Type 0) (a : Answer A) : Ty
   pub accepts : ((x : A) × (a ≡ accepted x)) ↔ None applies
   pub returns : (r : ℕ) → 0 < r → (status a ≡ r) ↔ Lowest applies r
   pub returns-0 : (status a ≡ 0) ↔ None applies
+
+-- ---- all of it
+
+pub record FiguresHold : Type 0 where
+  -- every field of a sheet stands where document 01 puts it
+  pub stands-at : (b : List ℕ) → StandsAt b (decode b)
+  -- each call is refused with its numbers, and accepts, exactly where document 01 says so
+  pub reading : (b : List ℕ) → AnswersBy (SheetApplies b) (readSheet b)
+  pub planning : (b cells buffer : List ℕ) → AnswersBy (PlanningApplies b (length cells) (length buffer)) (plan b cells buffer .answer)
+  pub validating : (b q : List ℕ) → AnswersBy (ValidatingApplies b q) (validate b q)
+  pub writing-a-plan : (n start : ℕ) (doors : List ℕ) (c : ℕ) (buffer : List ℕ)
+      → AnswersBy (WritingApplies n (length doors) (length buffer)) (writePlan n start doors c buffer .answer)
+  pub reading-a-plan : (n lent : ℕ) (q : List ℕ) → AnswersBy (ReadingPlanApplies n lent q) (readPlan n lent q)
+  -- with twelve doors lent, as document 01 has it, 12 is for N outside 1 to 12 alone
+  pub writing-twelve : (n start : ℕ) (doors : List ℕ) (c : ℕ) (buffer : List ℕ) → length doors ≡ 12
+      → (writePlan n start doors c buffer .answer ≡ refused 12) ↔ (Between 1 12 n → ⊥)
+  pub reading-twelve : (n : ℕ) (q : List ℕ) → (readPlan n 12 q ≡ refused 12) ↔ (Between 1 12 n → ⊥)
+  -- the print program loses nothing by reading at most 9,639 bytes
+  pub cut-input : (input : List ℕ) → printed input ≡ printedWith 4096 input
