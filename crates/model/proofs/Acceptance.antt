@@ -9,24 +9,25 @@ use Rattle.model.specs.Cost.{load, ruleCharge, charges, stepCost}
 use Rattle.model.specs.Plans.{inSheet, isSolution, roundCost, planCost, plans, solutions, cheapest, isCompletion, completions, costToGo}
 use Rattle.model.specs.Bytes.{numberAt, signed, bytesOf, overwrite, overwriteAt, writtenAt}
 use Rattle.model.specs.Answer.{accepted}
-use Rattle.model.specs.SheetLayout.{kind1, fieldWidth, bytesBefore, entryBytes, lineAt, lineBody, lineOffset, entries, fieldAt, sheetLength, decodeBy, layoutOf, decode}
+use Rattle.model.specs.SheetLayout.{kind1, fieldWidth, bytesBefore, entryBytes, lineAt, lineBody, lineOffset, entries, fieldAt, decodeBy, layoutOf, decode}
 use Rattle.model.specs.Faults.{tooShort, wrongKind, wrongEntries, someWrongEntries, wrongLine, wrongLength, wrongPlaces, badDoor, badStart, badPair, badRule, someBadDoor, someBadStart, someBadPair, someBadRule, outOfRange, lacksDoor, someLacksDoor, tooLight, sheetTests, unlessFault, readSheet}
 use Rattle.model.specs.PlanLayout.{planStartAt, planDoorsAt, planCostAt, planLength, lineBytes, planHead, doorBytes, planBytes, wrongTasks, shortRoom, writeTests, writeAnswer, bytesWritten, writePlan, wrongHead, illFormed, startIn, doorIn, doorsIn, costIn, doorArray, readTests, readPlan}
 use Rattle.model.specs.PlanInHand.{noDoors, withDoor, inHand}
 use Rattle.model.specs.Validating.{notInSheet, doneTwice, breaksPair, wrongCost, routeTests, validateFor, planTests, validate}
 use Rattle.model.specs.Planning.{cellsNeeded, fewCells, roomTests, planFor, cellAfter, cellsAfter, plan}
 use Rattle.model.specs.Printing.{decimal, refusalLine, stepLine, planLines, printedWith, print, printed}
-use Rattle.model.specs.Neighbours.{checkNeighbours}
+use Rattle.model.specs.Neighbours.{checkMethod, checkNeighbours}
+use Rattle.model.specs.Method.{withIn, listsOf, fullOf}
 
-examples : T checkStarred × T checkFurther × T checkNeighbours × (readSheet sheetA ≡ accepted (record { tasks = 2; points = 3 }))
-unfolding checkStarred checkFurther checkNeighbours
+examples : T checkStarred × T checkFurther × T checkNeighbours × T checkMethod × (readSheet sheetA ≡ accepted (record { tasks = 2; points = 3 }))
+unfolding checkStarred checkFurther checkNeighbours checkMethod
     countBelow isBetween mapBelow
-    bit with without full size watchedIn
+    bit with without full size watchedIn withIn listsOf fullOf
     isOrder keepsPair keepsEveryPair pairWithin keepsPairsWithin isAdmissible isOrderWithin admissibleOrders noOrder essential pairsAllow
     load ruleCharge charges stepCost
     inSheet isSolution roundCost planCost plans solutions cheapest isCompletion completions costToGo
     numberAt signed bytesOf overwrite overwriteAt writtenAt
-    kind1 fieldWidth bytesBefore entryBytes lineAt lineBody lineOffset entries fieldAt sheetLength decodeBy layoutOf decode
+    kind1 fieldWidth bytesBefore entryBytes lineAt lineBody lineOffset entries fieldAt decodeBy layoutOf decode
     tooShort wrongKind wrongEntries someWrongEntries wrongLine wrongLength wrongPlaces
     badDoor badStart badPair badRule someBadDoor someBadStart someBadPair someBadRule outOfRange lacksDoor someLacksDoor tooLight sheetTests unlessFault readSheet
     planStartAt planDoorsAt planCostAt planLength lineBytes planHead doorBytes planBytes wrongTasks shortRoom writeTests writeAnswer bytesWritten writePlan
@@ -35,7 +36,7 @@ unfolding checkStarred checkFurther checkNeighbours
     notInSheet doneTwice breaksPair wrongCost routeTests validateFor planTests validate
     cellsNeeded fewCells roomTests planFor cellAfter cellsAfter plan
     decimal refusalLine stepLine planLines printedWith print printed
-examples = (tt, tt, tt, refl)
+examples = (tt, tt, tt, tt, refl)
 
 -- the starred lines, all of them
 pub starred : T checkStarred
@@ -49,6 +50,10 @@ further = examples .1
 pub neighbours : T checkNeighbours
 neighbours = examples .2
 
+-- the code's masks and powers of two
+pub method : T checkMethod
+method = examples .3
+
 -- A reads, with two tasks and three points
 pub reads-A : readSheet sheetA ≡ accepted (record { tasks = 2; points = 3 })
-reads-A = examples .3
+reads-A = examples .4

@@ -10,9 +10,9 @@ use borrow.Author.Tests.{not-true, eqb-true, eqb-false, ne-eqb}
 use Rattle.model.specs.TaskList.{bit, without, full, size}
 use Rattle.model.specs.Sheet.{Sheet}
 use Rattle.model.specs.Orders.{isAdmissible, isOrderWithin, noOrder}
-use Rattle.model.specs.Method.{canComeFirst, strikeBelow, strikeOff}
+use Rattle.model.specs.Method.{maxListed, canComeFirst, strikeBelow, strikeOff, somethingLeft}
 use Rattle.model.proofs.Tests.{tested, same-test, not-both, and-both, eq-or-lt}
-use Rattle.model.proofs.Masks.{full-lt, without-same, without-other, without-le, size-none, size-without, size-zero, size-full}
+use Rattle.model.proofs.Masks.{full-lt, without-same, without-other, without-le, size-none, size-without, size-zero, size-full, full-of}
 use Rattle.model.specs.Answer.{Answer, refused, accepted, refuseIf}
 use Rattle.model.specs.SheetLayout.{decode}
 use Rattle.model.specs.Faults.{tooLight, Counts, readSheet}
@@ -145,6 +145,11 @@ module _ (S : Sheet) (R : InRange S) where
       go : (b : Bool) → noOrder S ≡ b → (strikeOff S (S .tasks) (full (S .tasks)) ≡ 0 → ⊥) → b ≡ true
       go true e h = refl
       go false e h = let o = has-order S e in absurd (h (off-empty (o .0, sym (admissible-is S R (o .0)) ∙ o .1)))
+
+  -- and so by what the code finds left, for as many tasks as it has a power of two for
+  pub something-left : S .tasks ≤ maxListed → noOrder S ≡ somethingLeft S
+  unfolding somethingLeft
+  something-left few = struck-off ∙ ap (λ (K : ℕ). not (eqb (strikeOff S (S .tasks) K) 0)) (sym (full-of (S .tasks) few))
 
 -- a sheet that passes 10 to 16 is refused with 17 exactly where no order of the tasks keeps every pair
 pub gets-17 : (b : List ℕ) → Cleared b → tooLight (decode b) ≡ false → (readSheet b ≡ refused 17) ↔ ((ts : List ℕ) → isAdmissible (decode b) ts ≡ true → ⊥)

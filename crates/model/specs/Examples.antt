@@ -8,7 +8,7 @@ use Rattle.model.specs.Folds.{sameList}
 use Rattle.model.specs.Plans.{roundCost}
 use Rattle.model.specs.Bytes.{overwriteAt, writtenAt}
 use Rattle.model.specs.Answer.{Answer, refused, accepted, status, placed}
-use Rattle.model.specs.SheetLayout.{maxPoints, kind1, sheetLength, decode}
+use Rattle.model.specs.SheetLayout.{decode}
 use Rattle.model.specs.Faults.{Counts, readSheet}
 use Rattle.model.specs.PlanLayout.{writePlan, PlanRead, readPlan}
 use Rattle.model.specs.PlanInHand.{PlanInHand, noDoors, withDoors, inHand}
@@ -290,9 +290,6 @@ checkFurther =
     && sameList (overwriteAt 3 (7 ∷ 8 ∷ []) (1 ∷ 2 ∷ 3 ∷ 4 ∷ [])) (1 ∷ 2 ∷ 3 ∷ 4 ∷ [])
     && eqb (writtenAt 2 (7 ∷ 8 ∷ []) (1 ∷ 2 ∷ 3 ∷ 4 ∷ [])) 2
     && eqb (writtenAt 3 (7 ∷ 8 ∷ []) (1 ∷ 2 ∷ 3 ∷ 4 ∷ [])) 0
-    -- the shortest sheet has 66 bytes, the longest 9,638
-    && eqb (sheetLength kind1 (kind1 .fewest 1)) 66
-    && eqb (sheetLength kind1 (kind1 .most maxPoints)) 9638
     -- through the C interface: 0 with N and P for A, and 16 with what was there before where A has E 2
     && eqb (status (readSheet sheetA)) 0
     && eqb (placed (λ (c : Counts). c .tasks) (readSheet sheetA) 7) 2

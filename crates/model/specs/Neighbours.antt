@@ -12,6 +12,7 @@ use Rattle.model.specs.PlanLayout.{writePlan, readPlan}
 use Rattle.model.specs.Validating.{validate}
 use Rattle.model.specs.Planning.{plan}
 use Rattle.model.specs.Examples.{sheetA, headOf, likeA, pairBytes, ruleBytes, paired, ringed, sheetB, cellNoise, byteNoise, planA, planLikeA, sameAnswer, readingRefuses, readingAnswers, planRefuses}
+use Rattle.model.specs.Method.{maskBits, withIn, listsOf, fullOf}
 
 -- ---- sheets
 
@@ -69,7 +70,17 @@ threeDoors d₁ d₂ d₃ =
     ∷ 24 ∷ 0 ∷ 3 ∷ 0 ∷ 3 ∷ 0 ∷ 30 ∷ 0 ∷ 1 ∷ 0 ∷ 0 ∷ 0
     ∷ d₁ ∷ 0 ∷ d₂ ∷ 0 ∷ d₃ ∷ 0 ∷ 12 ∷ 0 ∷ 0 ∷ 0 ∷ 0 ∷ 0 ∷ 0 ∷ 0 ∷ []
 
--- ---- the check
+-- ---- the checks
+
+-- the code's masks have 32 bits, and its powers of two go up to twelve tasks
+unfoldable pub checkMethod : Bool
+checkMethod =
+    eqb (withIn maskBits 5 31) 2147483653
+    && eqb (withIn maskBits 5 32) 5
+    && eqb (listsOf 12) 4096
+    && eqb (listsOf 13) 0
+    && eqb (fullOf 12) 4095
+    && eqb (fullOf 13) 0
 
 unfoldable pub checkNeighbours : Bool
 checkNeighbours =

@@ -141,10 +141,6 @@ bodyAt L b (suc i) = bodyAt L b i + entries b i * entryBytes L i
 unfoldable pub fieldAt : Layout → List ℕ → ℕ → ℕ → ℕ → ℕ
 fieldAt L b i f e = numberAt (fieldWidth L i f) b (bodyAt L b i + e * entryBytes L i + bytesBefore L i f)
 
--- the length of a sheet with so many entries in each body
-unfoldable pub sheetLength : Layout → List ℕ → ℕ
-sheetLength L counts = lineAt bodies + sumBelow bodies (λ i. getD counts i 0 * entryBytes L i)
-
 -- ---- what a sheet says
 
 -- the sheet that the bytes stand for, by the layout

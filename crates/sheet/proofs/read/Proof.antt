@@ -1,20 +1,18 @@
 -- Each test that did not apply is one of the definition's chain, and the first that applies is its answer. Twelve tasks at most, which 14 and 17 ask for, is what 12 has tested;
 -- 17 is decided by striking off because 14 has tested the pairs. Assumes nothing.
-use mathlib.Core.Path.{_≡_, sym, ap, ap₂, _∙_}
-use mathlib.Core.Bool.{Bool, false, not}
+use mathlib.Core.Path.{_≡_, sym, ap₂, _∙_}
+use mathlib.Core.Bool.{Bool, false}
 use mathlib.Core.List.{List}
 use Prim.Native.Nat.{ℕ, _≤_}
-use lib.Dec.{eqb}
 use lib.ListN.{drop}
-use Rattle.model.specs.Method.{maxListed, strikeOff, somethingLeft}
+use Rattle.model.specs.Method.{maxListed, somethingLeft}
 use Rattle.model.specs.Orders.{noOrder}
 use Rattle.model.specs.Answer.{Answer, accepted, refuseFirst}
 use Rattle.model.specs.SheetLayout.{layoutOf, decode}
 use Rattle.model.specs.Faults.{tooShort, wrongKind, someWrongEntries, wrongPlaces, outOfRange, someLacksDoor, tooLight, sheetTests, unlessFault, Counts, readSheet}
 use Rattle.model.proofs.Entries.{entries-within, tasks-listed, counts-within}
 use Rattle.model.proofs.Ranges.{in-range}
-use Rattle.model.proofs.NoOrder.{struck-off}
-use Rattle.model.proofs.Masks.{full-of}
+use Rattle.model.proofs.NoOrder.{something-left}
 use borrow.Author.Needs.{needs}
 use Rattle.sheet.proofs.read.Statement.{statement}
 use Rattle.sheet.proofs.read.Tie as tie
@@ -65,11 +63,10 @@ light c = sym (c .before .before .too-light .ensures) ∙ c .if7 .left
 
 -- 17 is what striking off leaves
 order-left : (e6 : tie.Else6) (t : Bool) → t ≡ somethingLeft (decode (bytes6 e6)) → noOrder (decode (bytes6 e6)) ≡ t
-unfolding somethingLeft
 order-left e6 t h =
     let e5 = e6 .before .before .before in
     let S = decode (bytes6 e6) in
-    struck-off S (in-range (layoutOf (bytes6 e6)) S (ranges e5)) ∙ sym (h ∙ ap (λ (K : ℕ). not (eqb (strikeOff S (S .tasks) K) 0)) (full-of (S .tasks) (few (e5 .before .before .before .before))))
+    something-left S (in-range (layoutOf (bytes6 e6)) S (ranges e5)) (few (e5 .before .before .before .before)) ∙ sym h
 
 ordered : (c : tie.Else8) → noOrder (decode (bytes6 (c .before .before .before))) ≡ false
 ordered c = order-left (c .before .before .before) _ (c .before .something-left .ensures) ∙ c .if8 .left
