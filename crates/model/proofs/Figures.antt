@@ -28,6 +28,7 @@ use Rattle.model.proofs.Enumerations.{no-order-iff}
 use Rattle.model.proofs.Reading.{all-reads}
 use Rattle.model.proofs.Planning.{has-plan}
 use Rattle.model.proofs.PlanBytes.{length-is, tasks-fit, fitting}
+use Rattle.model.proofs.Passing.{end-between}
 
 -- every field stands where the document puts it
 pub stands-at : (b : List ℕ) → StandsAt b (decode b)
@@ -177,6 +178,13 @@ module _ (b : List ℕ) where
       back (is15 e t l h) = inr (inr (inr (inr (inr (inl (e, no-door .1 (t, l, h)))))))
       back (is16 e h) = inr (inr (inr (inr (inr (inr (inl (e, too-light .1 h)))))))
       back (is17 e h) = inr (inr (inr (inr (inr (inr (inr (inl (e, no-order-iff (decode b) .1 h))))))))
+
+-- the lengths of sheets
+pub lengths-between : (b : List ℕ) → RightEntries b → RightPlaces b → Between 66 9638 (length b)
+unfolding layoutOf kind1 entries lineAt entryBytes bytesBefore fieldWidth
+lengths-between b h k =
+    let e = end-between b (entries-within (layoutOf b) b (right-entries b .1 h)) in
+    (omega (arith, k .ends, e .0), omega (arith, k .ends, e .1))
 
 -- reading is refused with each of its numbers, and accepts, exactly where document 01 says so
 pub reading-answers : (b : List ℕ) → AnswersBy (SheetApplies b) (readSheet b)

@@ -31,7 +31,7 @@ use Rattle.model.proofs.Validating.{tasks-below}
 use Rattle.model.proofs.Refusing.{Applies, refuse-append, applies-append, pass-none, answers-by}
 use Rattle.model.proofs.Reading.{Reads, all-reads, counts-read, sheet-within}
 use Rattle.model.proofs.Ranges.{in-range}
-use Rattle.model.proofs.Figures.{stands-at, sheet-applies, reading-answers, rising-sheet, planning-answers, writing-answers, well-formed, plan-reading-answers, writing-twelve, reading-twelve}
+use Rattle.model.proofs.Figures.{stands-at, sheet-applies, lengths-between, reading-answers, rising-sheet, planning-answers, writing-answers, well-formed, plan-reading-answers, writing-twelve, reading-twelve}
 use Rattle.model.proofs.Printing.{cut-input}
 
 -- ---- the tasks as driven, by their places
@@ -246,5 +246,8 @@ figures = record {
   reading-a-plan = plan-reading-answers;
   writing-twelve = writing-twelve;
   reading-twelve = reading-twelve;
+  lengths = lengths-between;
+  shortest = λ b h n d s q r p m. omega (arith, h .ends);
+  longest = λ b h n d s q r p m. omega (arith, h .ends);
   cut-input = cut-input;
 }

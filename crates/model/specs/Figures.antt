@@ -235,5 +235,11 @@ pub record FiguresHold : Type 0 where
   pub writing-twelve : (n start : ℕ) (doors : List ℕ) (c : ℕ) (buffer : List ℕ) → length doors ≡ 12
       → (writePlan n start doors c buffer .answer ≡ refused 12) ↔ (Between 1 12 n → ⊥)
   pub reading-twelve : (n : ℕ) (q : List ℕ) → (readPlan n 12 q ≡ refused 12) ↔ (Between 1 12 n → ⊥)
+  -- a sheet whose entries and places are right has from 66 to 9,638 bytes: with the fewest entries 66, with the most 9,638
+  pub lengths : (b : List ℕ) → RightEntries b → RightPlaces b → Between 66 9638 (length b)
+  pub shortest : (b : List ℕ) → RightPlaces b → tasksStated b ≡ 1 → doorsStated b ≡ 1 → startsStated b ≡ 1 → pairsStated b ≡ 0 → rulesStated b ≡ 0 → pointsStated b ≡ 1
+      → distancesStated b ≡ 1 → length b ≡ 66
+  pub longest : (b : List ℕ) → RightPlaces b → tasksStated b ≡ 12 → doorsStated b ≡ 64 → startsStated b ≡ 16 → pairsStated b ≡ 32 → rulesStated b ≡ 32 → pointsStated b ≡ 64
+      → distancesStated b ≡ 4096 → length b ≡ 9638
   -- the print program loses nothing by reading at most 9,639 bytes
   pub cut-input : (input : List ℕ) → printed input ≡ printedWith 4096 input
