@@ -13,7 +13,7 @@ use Rattle.model.specs.SheetLayout.{kind1, fieldWidth, bytesBefore, entr
 use Rattle.model.specs.Faults.{tooShort, wrongKind, wrongEntries, someWrongEntries, wrongLine, wrongLength, wrongPlaces, badDoor, badStart, badPair, badRule, someBadDoor, someBadStart, someBadPair, someBadRule, outOfRange, lacksDoor, someLacksDoor, tooLight, sheetTests, unlessFault, readSheet}
 use Rattle.model.specs.PlanLayout.{planStartAt, planDoorsAt, planCostAt, planLength, lineBytes, planHead, doorBytes, planBytes, wrongTasks, shortRoom, writeTests, writeAnswer, bytesWritten, writePlan, wrongHead, illFormed, startIn, doorIn, doorsIn, costIn, doorArray, readTests, readPlan}
 use Rattle.model.specs.PlanInHand.{noDoors, withDoor, inHand}
-use Rattle.model.specs.Validating.{notInSheet, doneTwice, breaksPair, wrongCost, routeTests, validateFor, planTests, validate}
+use Rattle.model.specs.Validating.{notInSheet, doneTwice, breaksPair, wrongCost, routeTests, planTests, validate}
 use Rattle.model.specs.Planning.{cellsNeeded, fewCells, roomTests, planFor, cellAfter, cellsAfter, plan}
 use Rattle.model.specs.Printing.{decimal, refusalLine, stepLine, planLines, printedWith, print, printed}
 use Rattle.model.specs.Neighbours.{checkMethod, checkNeighbours}
@@ -33,7 +33,7 @@ unfolding checkStarred checkFurther checkNeighbours checkMethod
     planStartAt planDoorsAt planCostAt planLength lineBytes planHead doorBytes planBytes wrongTasks shortRoom writeTests writeAnswer bytesWritten writePlan
     wrongHead illFormed startIn doorIn doorsIn costIn doorArray readTests readPlan
     noDoors withDoor inHand
-    notInSheet doneTwice breaksPair wrongCost routeTests validateFor planTests validate
+    notInSheet doneTwice breaksPair wrongCost routeTests planTests validate
     cellsNeeded fewCells roomTests planFor cellAfter cellsAfter plan
     decimal refusalLine stepLine planLines printedWith print printed
 examples = (tt, tt, tt, tt, refl)

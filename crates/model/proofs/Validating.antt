@@ -13,10 +13,10 @@ use Rattle.model.specs.TaskList.{full}
 use Rattle.model.specs.Sheet.{Sheet}
 use Rattle.model.specs.Orders.{keepsEveryPair}
 use Rattle.model.specs.Plans.{inSheet, isSolution, roundCost}
-use Rattle.model.specs.Answer.{refused, accepted, refuseFirst}
+use Rattle.model.specs.Answer.{Answer, refused, accepted, refuseFirst}
 use Rattle.model.specs.SheetLayout.{layoutOf, decode}
 use Rattle.model.specs.PlanLayout.{planBytes, startIn, doorsIn, costIn}
-use Rattle.model.specs.Validating.{notInSheet, doneTwice, breaksPair, wrongCost, routeTests, validateFor, planTests, validate}
+use Rattle.model.specs.Validating.{notInSheet, doneTwice, breaksPair, wrongCost, routeTests, planTests, validate}
 use Rattle.model.proofs.Tests.{and-left, and-right, and-both, or-left, or-right, or-neither, none-at, none-below}
 use Rattle.model.proofs.Counting.{order-once, order-of-all}
 use Rattle.model.proofs.Solutions.{SolutionTests, solution, is-solution, solution-length, solution-fits}
@@ -58,10 +58,14 @@ done-once : (S : Sheet) (s : ℕ) (ds : List ℕ) → SolutionTests S s ds → d
 unfolding doneTwice
 done-once S s ds h = none-below (S .tasks) _ (λ t l. le-ltb 1 (countOf t (map (S .task) ds)) (order-once (S .tasks) (full (S .tasks)) (map (S .task) ds) (h .order) t))
 
+-- what start, doors and cost are answered with
+abbrev pub validateFor : Sheet → ℕ → List ℕ → ℕ → Answer ℕ
+validateFor S s ds c = refuseFirst (routeTests S s ds c) (accepted c)
+
 -- what is accepted is a solution with its cost, and such a one is accepted
 pub validate-for-iff : (S : Sheet) → InRange S → (s : ℕ) (ds : List ℕ) (c c' : ℕ) → length ds ≡ S .tasks
     → (validateFor S s ds c ≡ accepted c') ↔ ((isSolution S s ds ≡ true) × (c ≡ roundCost S s ds) × (c' ≡ c))
-unfolding validateFor routeTests breaksPair wrongCost
+unfolding routeTests breaksPair wrongCost
 validate-for-iff S R s ds c c' e = (there, back)
   where
     ts : List ℕ
@@ -83,7 +87,7 @@ validate-for-iff S R s ds c c' e = (there, back)
 -- the bytes are judged by the start, doors and cost that they were written for
 plan-validated : (S : Sheet) → CountsWithin S → (s : ℕ) (ds : List ℕ) (c : ℕ) → SolutionTests S s ds → c < 2 ^ 64
     → refuseFirst (planTests S (planBytes (S .tasks) s ds c)) (accepted (costIn (S .tasks) (planBytes (S .tasks) s ds c))) ≡ validateFor S s ds c
-unfolding planTests validateFor
+unfolding planTests
 plan-validated S W s ds c x l =
     let n : ℕ = S .tasks in
     let small = solution-fits S W s ds x in
@@ -92,7 +96,7 @@ plan-validated S W s ds c x l =
 -- validating accepts exactly the well-formed bytes of a solution with its cost
 pub validate-iff : (b q : List ℕ) (c : ℕ) → areBytes q ≡ true → Reads b → ((s : ℕ) (ds : List ℕ) → isSolution (decode b) s ds ≡ true → roundCost (decode b) s ds < 2 ^ 64)
     → (validate b q ≡ accepted c) ↔ ((s : ℕ) × (ds : List ℕ) × (isSolution (decode b) s ds ≡ true) × (c ≡ roundCost (decode b) s ds) × (q ≡ planBytes (decode b .tasks) s ds c))
-unfolding validate planTests validateFor
+unfolding validate planTests
 validate-iff b q c bytes reads small = (there, back)
   where
     S : Sheet

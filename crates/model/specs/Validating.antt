@@ -37,10 +37,6 @@ routeTests S s ds c =
     ∷ (34 when wrongCost S s ds c)
     ∷ []
 
--- one of them, else the cost
-unfoldable pub validateFor : Sheet → ℕ → List ℕ → ℕ → Answer ℕ
-validateFor S s ds c = refuseFirst (routeTests S s ds c) (accepted c)
-
 -- the numbers of a plan's bytes held against what the sheet says, in the order in which they are tested
 unfoldable pub planTests : Sheet → List ℕ → List Test
 planTests S q = (30 when illFormed (S .tasks) q) ∷ routeTests S (startIn q) (doorsIn (S .tasks) q) (costIn (S .tasks) q)

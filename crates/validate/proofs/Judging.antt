@@ -13,7 +13,7 @@ use Rattle.model.specs.SheetLayout.{maxTasks, layoutOf, decode}
 use Rattle.model.specs.Faults.{Counts, readSheet}
 use Rattle.model.specs.PlanLayout.{illFormed, startIn, doorsIn, costIn}
 use Rattle.model.specs.PlanInHand.{PlanInHand, inHand}
-use Rattle.model.specs.Validating.{notInSheet, doneTwice, breaksPair, wrongCost, routeTests, validateFor, planTests, validate}
+use Rattle.model.specs.Validating.{notInSheet, doneTwice, breaksPair, wrongCost, routeTests, planTests, validate}
 use Rattle.model.proofs.Tests.{or-right}
 use Rattle.model.proofs.Ranges.{in-range}
 use Rattle.model.proofs.Reading.{Reads, reads-then, counts-read, accepted-reads, refused-alike}
@@ -83,7 +83,7 @@ module _ {b q : List ℕ} {start : ℕ} {x : PlanInHand} {tasks : List ℕ} (h :
       (refuseIf (breaksPair (decode b) (take (x .count) tasks)) 33
       (refuseIf (wrongCost (decode b) start (take (x .count) (x .doors)) (x .cost)) 34
       (accepted (x .cost)))))
-  unfolding validate planTests validateFor routeTests
+  unfolding validate planTests routeTests
   judged = reads-then b _ (h .sheet) ∙ rw (h .formed, tasks-done, h .doors-are, h .start-is, h .cost-is)
 
   pub not-in-sheet : notInSheet (decode b) start (take (x .count) (x .doors)) ≡ true → refused 31 ≡ validate b q
