@@ -31,7 +31,8 @@ use Rattle.model.proofs.Validating.{tasks-below}
 use Rattle.model.proofs.Refusing.{Applies, refuse-append, applies-append, pass-none, answers-by}
 use Rattle.model.proofs.Reading.{Reads, all-reads, counts-read, sheet-within}
 use Rattle.model.proofs.Ranges.{in-range}
-use Rattle.model.proofs.Figures.{stands-at, sheet-applies, lengths-between, reading-answers, rising-sheet, planning-answers, writing-answers, well-formed, plan-reading-answers, writing-twelve, reading-twelve}
+use Rattle.model.proofs.Figures.{stands-at, sheet-applies, lengths-between, reading-answers, rising-sheet, planning-answers}
+use Rattle.model.proofs.PlanFigures.{writing-answers, well-formed, plan-reading-answers, writing-twelve, reading-twelve}
 use Rattle.model.proofs.Printing.{cut-input}
 
 -- ---- the tasks as driven, by their places

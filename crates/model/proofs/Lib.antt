@@ -48,4 +48,5 @@ pub mod Meanings
 pub mod Demands
 pub mod Calls
 pub mod Figures
+pub mod PlanFigures
 pub mod Judged
