@@ -9,8 +9,8 @@ ghost use Rattle.model.specs.SheetLayout.{decode};
 ghost use Rattle.row.specs.Leasts.{throughGathered, Gathered};
 ghost use Rattle.plan.specs.Answers.{handOf};
 ghost use Rattle.complete.specs.Completed.{nextDoor, completed, Completable};
-use gather::MAX_DOORS;
 use plan::Plan;
+use view::MAX_DOORS;
 use view::View;
 
 // Which of the gathered doors is the first through which the cost from point p is this one; how many they are, where none is.
@@ -41,7 +41,7 @@ fn next_door(s: &[u8], v: View, p: u16, k: u32, cells: &[u64]) -> u16
     requires { ⌜ Completable (now s) v k p (now cells) × (k ≢ 0) ⌝ }
     ensures { λ r. ⌜ r ≡ nextDoor (decode (now (s .entry))) k p ⌝ }
 {
-    let load = cost::load(s, k);
+    let load = cost::load(s, v, k);
     let rows = table::rest_rows(v.points, k);
     let mut doors = [0u16; MAX_DOORS];
     let mut arrivals = [0u16; MAX_DOORS];

@@ -1,3 +1,5 @@
 pub mod Loads
 pub mod Rules
+pub mod Listing
+pub mod Steps
 pub mod Routes

@@ -1,109 +1,108 @@
--- A step and a route in the code. Assumes nothing.
+-- A route as a whole: its legs and its charges are its cost, and a solution can be costed. Assumes nothing.
 use mathlib.Core.Path.{_≡_, sym, ap, ap₂, _∙_}
-use mathlib.Core.Bool.{true}
-use mathlib.Core.List.{List}
-use Prim.Native.Nat.{ℕ, zero, suc, _+_, _-_, _*_, _^_, _≤_, _<_}
+use mathlib.Core.Bool.{true, false, cond}
+use mathlib.Core.List.{List, [], _∷_, map}
+use Prim.Native.Nat.{ℕ, _+_, _^_, _<_}
 use native.Mathlib.Omega.{arith}
-use lib.Dec.{T, ltb}
-use lib.IntN.{pos, natAbs}
-use lib.ListN.{length, getD, drop}
-use lib.Pow.{pow-pos}
-use lib.Seq.{drop-cons, drop-length}
-use lib.Signed.{nonNeg}
+use lib.Dec.{eqb, ltb}
+use lib.ListN.{getD, length-map}
+use lib.Pow.{areBytes, pow-pos}
 use borrow.Author.Tests.{ltb-true}
-use Rattle.model.specs.TaskList.{with}
-use Rattle.model.specs.Method.{maskBits, withIn}
+use Rattle.model.specs.Folds.{mapBelow}
+use Rattle.model.specs.TaskList.{full, maskOf}
 use Rattle.model.specs.Sheet.{Sheet}
-use Rattle.model.specs.Cost.{load, charges, stepCost, cost}
-use Rattle.model.specs.Plans.{inSheet}
-use Rattle.model.specs.SheetLayout.{maxTasks}
-use Rattle.model.specs.PlanLayout.{maxPlanDoors}
-use Rattle.model.proofs.Elements.{in-at}
-use Rattle.model.proofs.Loads.{load-not-negative}
-use Rattle.model.specs.Passing.{InRange, Light}
-use Rattle.model.proofs.Masks.{with-in}
+use Rattle.model.specs.Cost.{ruleCharge, cost}
+use Rattle.model.specs.Method.{legs, chargesOn, openOn}
+use Rattle.model.specs.Plans.{inSheet, isSolution, roundCost}
+use Rattle.model.specs.SheetLayout.{maxDoors, layoutOf, decode}
+use Rattle.model.specs.Passing.{CountsWithin, InRange, LeastCounts, LoadsHold}
+use Rattle.model.proofs.Tests.{and-left, and-right}
+use Rattle.model.proofs.Folds.{sum-cong, length-mapBelow, mapBelow-at}
 use Rattle.model.proofs.OpenLists.{with-lt}
-use Rattle.cost.specs.Routes.{pointBefore, openAt, Costable}
+use Rattle.model.proofs.Counting.{order-once}
+use Rattle.model.proofs.Charges.{cost-parts, charges-by-rule}
+use Rattle.model.proofs.Bounds.{doors-once, route-fits}
+use Rattle.model.proofs.OpenAlong.{solution-loads}
+use Rattle.model.proofs.Solutions.{door-in, SolutionTests, solution}
+use Rattle.view.specs.declared.View.{View}
+use Rattle.view.specs.Views.{Viewed}
+use Rattle.cost.specs.Routes.{openAt, openBy, chargesWith, Listable, ChargeableWith, Costable}
+use Rattle.cost.proofs.Listing.{open-on}
+use Rattle.cost.proofs.Steps.{task-in}
 
--- ---- one step
+-- ---- the lists along a route
 
--- q, x, y, w and c are what the code has for the arrival point, the distance, the load, the work and the charges
-pub step-is : (S : Sheet) (K p d : ℕ) {q x y w c : ℕ} → q ≡ S .arrive d → x ≡ S .distance p q → pos y ≡ load S K → w ≡ S .work d → c ≡ charges S K d
-    → x * y + w + c ≡ stepCost S K p d
-unfolding stepCost
-step-is S K p d hq hx hy hw hc = ap₂ _+_ (ap₂ _+_ (ap₂ _*_ (hx ∙ ap (S .distance p) hq) (ap natAbs hy)) hw) hc
+module _ (S : Sheet) (R : InRange S) where
+  mask-listed : (ds : List ℕ) → inSheet S ds ≡ true → maskOf (map (S .task) ds) < 2 ^ S .tasks
+  unfolding inSheet
+  mask-listed [] h = pow-pos (S .tasks)
+  mask-listed (d ∷ ds) h = with-lt (S .tasks) (maskOf (map (S .task) ds)) (S .task d)
+      (mask-listed ds (and-right (ltb d (S .doors)) (inSheet S ds) h)) (R .task d (ltb-true d (S .doors) (and-left (ltb d (S .doors)) (inSheet S ds) h)))
 
--- ---- a route, from its last step to its first
+  -- are lists of the sheet's tasks
+  on-listed : (x : ℕ) (ds : List ℕ) → inSheet S ds ≡ true → openOn S ds x < 2 ^ S .tasks
+  unfolding inSheet
+  on-listed x [] h = pow-pos (S .tasks)
+  on-listed x (d ∷ ds) h = elim (eqb d x) as (λ t. cond t (maskOf (map (S .task) (d ∷ ds))) (openOn S ds x) < 2 ^ S .tasks)
+      [ true ↦ mask-listed (d ∷ ds) h | false ↦ on-listed x ds (and-right (ltb d (S .doors)) (inSheet S ds) h) ]
 
-pub point-behind : (S : Sheet) (p : ℕ) (ds : List ℕ) (i : ℕ) → 0 < i → S .depart (getD ds (i - 1) 0) ≡ pointBefore S p ds i
-point-behind S p ds zero h = absurd (omega arith)
-point-behind S p ds (suc i) h = ap (λ (j : ℕ). S .depart (getD ds j 0)) (omega arith)
+-- ---- the whole
 
--- step i joins its task to the list that is open behind it
-open-from : (S : Sheet) (ds : List ℕ) (i : ℕ) → i < length ds → openAt S ds i ≡ with (openAt S ds (suc i)) (S .task (getD ds i 0))
-unfolding openAt
-open-from S ds i l = rw (drop-cons ds i 0 l)
-
--- and adds its cost to that of the steps behind it
-cost-from : (S : Sheet) (p : ℕ) (ds : List ℕ) (i : ℕ) → i < length ds
-    → cost S (pointBefore S p ds i) (drop i ds) ≡ stepCost S (openAt S ds i) (pointBefore S p ds i) (getD ds i 0) + cost S (pointBefore S p ds (suc i)) (drop (suc i) ds)
-unfolding openAt
-cost-from S p ds i l = rw (drop-cons ds i 0 l)
-
--- the steps from i on: their cost from where the van stands before them, and the list that is open there
-pub record CostedFrom (S : Sheet) (p : ℕ) (ds : List ℕ) (i sum later : ℕ) : Type 0 where
-  pub within : i ≤ length ds
-  pub costs : sum ≡ cost S (pointBefore S p ds i) (drop i ds)
-  pub still-open : later ≡ openAt S ds i
-  pub listed : later < 2 ^ S .tasks
-
--- behind the last step the end cost is left
-pub no-step : (S : Sheet) (p : ℕ) (ds : List ℕ) {last sum : ℕ} → last ≡ pointBefore S p ds (length ds) → sum ≡ S .endCost last → CostedFrom S p ds (length ds) sum 0
-unfolding openAt
-no-step S p ds e h = record { within = omega arith; costs = rw drop-length (h ∙ ap (S .endCost) e); still-open = rw drop-length; listed = pow-pos (S .tasks) }
-
-pub all-steps : {S : Sheet} {p : ℕ} {ds : List ℕ} {i sum later : ℕ} → CostedFrom S p ds i sum later → i ≤ 0 → sum ≡ cost S p ds
-all-steps {S} {p} {ds} {i} h l = let z : i ≡ 0 = omega arith in h .costs ∙ ap (λ (n : ℕ). cost S (pointBefore S p ds n) (drop n ds)) z
-
--- one step more: step j, for task t, with k open
-module _ {S : Sheet} {p : ℕ} {ds : List ℕ} {i sum later : ℕ} (C : Costable S ds) (h : CostedFrom S p ds i sum later) (j : ℕ) (e : i ≡ suc j)
-    {t k : ℕ} (ht : t ≡ S .task (getD ds j 0)) (hk : k ≡ withIn maskBits later t) where
-  inside : j < length ds
-  inside = omega (arith, h .within)
-
-  below : t < S .tasks
-  below = rw ht (C .task j inside)
-
-  joined : k ≡ with later t
-  joined = hk ∙ with-in maskBits later t (omega (arith, below, C .tasks))
-
-  is-open : k ≡ openAt S ds j
-  is-open = joined ∙ ap₂ with (h .still-open ∙ ap (openAt S ds) e) ht ∙ sym (open-from S ds j inside)
-
-  listed : k < 2 ^ S .tasks
-  listed = rw joined (with-lt (S .tasks) later t (h .listed) below)
-
-  pub step-asks : (k < 2 ^ S .tasks) × T (nonNeg (load S k))
-  step-asks = (listed, rw is-open (C .load j inside))
-
-  pub next-step : {from r : ℕ} → from ≡ pointBefore S p ds j → r ≡ stepCost S k from (getD ds j 0) → CostedFrom S p ds j (r + sum) k
-  next-step q x = record {
-    within = omega (arith, inside);
-    costs =
-        ap₂ _+_ (x ∙ ap₂ (λ (K a : ℕ). stepCost S K a (getD ds j 0)) is-open q) (h .costs ∙ ap (λ (n : ℕ). cost S (pointBefore S p ds n) (drop n ds)) e)
-        ∙ sym (cost-from S p ds j inside);
-    still-open = is-open;
-    listed = listed;
+module _ {b : List ℕ} {v : View} {p : ℕ} {ds ts : List ℕ} (C : Costable b v p ds ts) where
+  pub listable : Listable ds ts
+  listable = record {
+    size = rw (C .tasks-are) (length-map ds (decode b .task));
+    door = λ i l. omega (arith, door-in (decode b) ds (C .in-sheet) i l, C .doors);
+    task = λ i l. omega (arith, task-in C i l, C .tasks);
   }
+
+  -- `lists` is what the code has for the lists that are open at the doors
+  module _ {lists : List ℕ} (e : lists ≡ mapBelow maxDoors (openBy ds ts)) where
+    place : (i : ℕ) → i < decode b .rules → decode b .ruleDoor i < maxDoors
+    place i l = omega (arith, C .ranges .ruleDoor i l, C .doors)
+
+    list-is : (i : ℕ) → i < decode b .rules → getD lists (decode b .ruleDoor i) 0 ≡ openOn (decode b) ds (decode b .ruleDoor i)
+    list-is i l =
+        ap (λ (xs : List ℕ). getD xs (decode b .ruleDoor i) 0) e
+        ∙ mapBelow-at maxDoors (openBy ds ts) (decode b .ruleDoor i) 0 (place i l)
+        ∙ ap (λ (xs : List ℕ). openBy ds xs (decode b .ruleDoor i)) (C .tasks-are)
+        ∙ open-on (decode b) ds (decode b .ruleDoor i)
+
+    charges-are : chargesWith (decode b) lists ≡ chargesOn (decode b) ds
+    unfolding chargesWith
+    charges-are =
+        sum-cong (decode b .rules) _ _ (λ i l. ap (λ (K : ℕ). ruleCharge (decode b) K i) (list-is i l))
+        ∙ sym (charges-by-rule (decode b) (C .leastCounts) ds (doors-once (decode b) ds (λ t. rw (← C .tasks-are) (C .once t))))
+
+    pub chargeable : ChargeableWith b v lists
+    chargeable = record {
+      view = C .view;
+      door = λ i l. rw (e, length-mapBelow) (place i l);
+      list = λ i l. rw (list-is i l) (on-listed (decode b) (C .ranges) (decode b .ruleDoor i) ds (C .in-sheet));
+      fits = omega (arith, charges-are, cost-parts (decode b) p ds, C .fits);
+    }
+
+    pub route-is : {x y : ℕ} → x ≡ legs (decode b) p ds → y ≡ chargesWith (decode b) lists → x + y ≡ cost (decode b) p ds
+    route-is hx hy = ap₂ _+_ hx (hy ∙ charges-are) ∙ sym (cost-parts (decode b) p ds)
 
 -- ---- what costing a route asks
 
--- where 14 and 16 do not apply, any route through doors of the sheet, no more of them than a plan has, can be costed
-pub costable : (S : Sheet) → Light S → InRange S → S .tasks ≤ maxTasks → (ds : List ℕ) → inSheet S ds ≡ true → length ds ≤ maxPlanDoors → Costable S ds
-unfolding inSheet
-costable S L R n ds h s = record {
-  short = s;
-  tasks = omega arith;
-  task = λ i l. R .task (getD ds i 0) (ltb-true (getD ds i 0) (S .doors) (in-at (λ d. ltb d (S .doors)) ds 0 h i l));
-  load = λ i l. load-not-negative S (openAt S ds i) L;
-}
+-- a solution of a sheet that 12 and 14 do not refuse, and of which no essential list has a load below zero, can be costed from its start
+pub costable : {b : List ℕ} {v : View} → areBytes b ≡ true → Viewed b v → CountsWithin (decode b) → InRange (decode b) → LeastCounts (layoutOf b) (decode b) → LoadsHold (decode b)
+    → (s : ℕ) {p : ℕ} {ds ts : List ℕ} → isSolution (decode b) s ds ≡ true → p ≡ decode b .startPoint s → ts ≡ map (decode b .task) ds → Costable b v p ds ts
+unfolding openAt roundCost
+costable {b} bytes view n R c h s {p} {ds} {ts} e q t =
+    let x : SolutionTests (decode b) s ds = solution (decode b) s ds e in
+    record {
+      view = view;
+      ranges = R;
+      leastCounts = λ i l. c i l .0;
+      tasks = omega (arith, n .tasks);
+      doors = n .doors;
+      point = rw q (R .start s (x .start));
+      in-sheet = x .doors;
+      tasks-are = t;
+      once = rw t (order-once (decode b .tasks) (full (decode b .tasks)) (map (decode b .task) ds) (x .order));
+      loads = solution-loads (decode b) R h s ds e;
+      fits = rw q (route-fits b bytes (omega (arith, n .tasks)) (n .rules) s ds e);
+    }

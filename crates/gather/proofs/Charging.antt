@@ -1,41 +1,47 @@
 -- The charges on every door, one access rule at a time. Assumes nothing.
-use mathlib.Core.Path.{_≡_, refl, sym, _∙_, subst}
+use mathlib.Core.Path.{_≡_, refl, sym, ap, ap₂, _∙_, subst}
 use mathlib.Core.Logic.{_≢_, ⊎-elim}
-use mathlib.Core.Bool.{Bool, true, false}
+use mathlib.Core.Bool.{true, false, cond}
 use mathlib.Core.List.{List}
-use Prim.Native.Nat.{ℕ, _+_, _*_, _^_, _≤_, _<_}
+use Prim.Native.Nat.{ℕ, _+_, _*_, _≤_, _<_}
+use native.Mathlib.Nat.{add-zero}
+use native.Mathlib.Numerals.{add-one}
 use native.Mathlib.Omega.{arith}
-use mir.Val.{boolByte}
-use lib.Dec.{eqb, leb}
+use lib.Dec.{eqb}
 use lib.ListN.{length, getD, set, replicate, length-set, length-replicate, getD-replicate}
 use lib.Seq.{getD-set-same, getD-set-other, ext-getD}
-use borrow.Author.Tests.{eqb-true, eqb-false, leb-true, leb-false}
-use Rattle.model.specs.Folds.{mapBelow}
-use Rattle.model.specs.TaskList.{watchedIn}
-use Rattle.model.specs.Method.{maskBits}
+use borrow.Author.Tests.{eqb-true, eqb-false, eq-eqb, ne-eqb}
+use Rattle.model.specs.Folds.{sumBelow, mapBelow}
 use Rattle.model.specs.Sheet.{Sheet}
 use Rattle.model.specs.SheetLayout.{maxDoors}
 use Rattle.model.specs.Cost.{ruleCharge, charges}
 use Rattle.model.proofs.Tests.{tested}
 use Rattle.model.proofs.Folds.{length-mapBelow, mapBelow-at}
-use Rattle.cost.proofs.Rules.{charged, not-charged, ChargedBelow, no-rule, all-rules, next-rule, other-rule}
+use Rattle.model.proofs.Bounds.{maxCharge}
 
--- ---- one rule
+-- ---- the rules on a door
 
--- the charge, times whether the rule applies
-pub times-le : (x : ℕ) (b : Bool) → x * boolByte b ≤ x
-times-le x true = omega arith
-times-le x false = omega arith
+-- the sum in the code, of what the rules below i cost on door d
+pub record ChargedBelow (S : Sheet) (K d i sum : ℕ) : Type 0 where
+  pub is : sum ≡ sumBelow i (λ j. cond (eqb (S .ruleDoor j) d) (ruleCharge S K j) 0)
+  pub bound : sum ≤ i * maxCharge
 
--- of rule i the code has the charge x, the watched tasks W, how many of them are in the mask K, and the least count
-pub charge-times : (S : Sheet) (K i : ℕ) {x W count least : ℕ} → K < 2 ^ S .tasks → K < 2 ^ maskBits → x ≡ S .charge i → W ≡ S .watched i → count ≡ watchedIn maskBits W K
-    → least ≡ S .leastCount i → x * boolByte (leb least count) ≡ ruleCharge S K i
-charge-times S K i {x} {W} {count} {least} small fits e w n m = ⊎-elim
-    (λ (a : leb least count ≡ true). rw a (omega (arith, e, charged S K i small fits w n m (leb-true least count a))))
-    (λ (a : leb least count ≡ false). rw a (omega (arith, not-charged S K i small fits w n m (leb-false least count a))))
-    (tested (leb least count))
+no-rule : (S : Sheet) (K d : ℕ) → ChargedBelow S K d 0 0
+no-rule S K d = record { is = refl; bound = omega arith }
 
--- ---- every rule
+all-rules : {S : Sheet} {K d i sum : ℕ} → ChargedBelow S K d i sum → i ≡ S .rules → sum ≡ charges S K d
+unfolding charges
+all-rules {S} {K} {d} h e = h .is ∙ ap (λ (n : ℕ). sumBelow n (λ j. cond (eqb (S .ruleDoor j) d) (ruleCharge S K j) 0)) e
+
+-- rule i is on `door`
+module _ {S : Sheet} {K d i sum : ℕ} (h : ChargedBelow S K d i sum) {door : ℕ} (e : door ≡ S .ruleDoor i) where
+  next-rule : {r : ℕ} → door ≡ d → r ≡ ruleCharge S K i → r ≤ maxCharge → ChargedBelow S K d (i + 1) (sum + r)
+  next-rule {r} o q l = rw add-one (record { is = rw (eq-eqb (S .ruleDoor i) d (sym e ∙ o)) (ap₂ _+_ (h .is) q); bound = omega (arith, h .bound) })
+
+  other-rule : door ≢ d → ChargedBelow S K d (i + 1) sum
+  other-rule o = rw add-one (record { is = rw (ne-eqb (S .ruleDoor i) d (λ w. o (e ∙ w)), add-zero) (h .is); bound = omega (arith, h .bound) })
+
+-- ---- the rules on every door
 
 -- the array in the code: for each door, what the rules below i cost on it
 pub record Charged (S : Sheet) (K : ℕ) (sums : List ℕ) (i : ℕ) : Type 0 where
@@ -50,7 +56,7 @@ none-charged S K = record {
 
 module _ {S : Sheet} {K i : ℕ} {sums : List ℕ} (h : Charged S K sums i) where
   -- rule i, on door e, where r is what it costs there
-  pub charge-on : {e r : ℕ} {new : List ℕ} → e ≡ S .ruleDoor i → e < maxDoors → r ≡ ruleCharge S K i → r < 2 ^ 32 → new ≡ set sums e (getD sums e 0 + r)
+  pub charge-on : {e r : ℕ} {new : List ℕ} → e ≡ S .ruleDoor i → e < maxDoors → r ≡ ruleCharge S K i → r ≤ maxCharge → new ≡ set sums e (getD sums e 0 + r)
       → Charged S K new (i + 1)
   charge-on {e} {r} on there is small q = rw q (record {
     size = length-set sums e _ ∙ h .size;
@@ -67,5 +73,5 @@ module _ {S : Sheet} {K i : ℕ} {sums : List ℕ} (h : Charged S K sums i) wher
       let m : d < maxDoors = rw (h .size) at l in
       all-rules (h .each d m) e ∙ sym (mapBelow-at maxDoors (charges S K) d 0 m))
 
-  pub sum-bound : (d : ℕ) → d < maxDoors → i < 2 ^ 16 → getD sums d 0 < 2 ^ 48
-  sum-bound d l n = omega (arith, h .each d l .bound)
+  pub sum-bound : (d : ℕ) → d < maxDoors → getD sums d 0 ≤ i * maxCharge
+  sum-bound d l = h .each d l .bound

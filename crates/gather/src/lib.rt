@@ -10,10 +10,8 @@ ghost use Rattle.model.specs.Cost.{charges};
 ghost use Rattle.model.specs.Method.{firstDoors};
 ghost use Rattle.view.specs.Views.{Viewed};
 ghost use Rattle.gather.specs.Gathering.{firstTasks, restAt, partWith, partOf, Gatherable, Chargeable};
+use view::MAX_DOORS;
 use view::View;
-
-// The most doors of a sheet.
-pub const MAX_DOORS: usize = 64;
 
 // The tasks that can come first in list k: those that are receiver in no pair within it.
 fn first_tasks(s: &[u8], v: View, k: u32) -> u32
@@ -43,10 +41,8 @@ fn door_charges(s: &[u8], v: View, k: u32) -> [u64; MAX_DOORS]
     let mut sums = [0u64; MAX_DOORS];
     let mut i: u16 = 0;
     while i < rules {
-        let watched = view::watched(s, v, i) as u32;
-        let applies = view::least_count(s, v, i) as u32 <= tasklist::watched_in(watched, k);
         let d = view::rule_door(s, v, i) as usize;
-        sums[d] = sums[d] + view::charge(s, v, i) as u64 * applies as u64;
+        sums[d] = sums[d] + cost::rule_charge(s, v, k, i);
         i = i + 1;
     }
     sums

@@ -17,12 +17,12 @@ use Rattle.model.specs.Validating.{notInSheet, doneTwice, breaksPair, wr
 use Rattle.model.specs.Planning.{cellsNeeded, fewCells, roomTests, planFor, cellAfter, cellsAfter, plan}
 use Rattle.model.specs.Printing.{decimal, refusalLine, stepLine, planLines, printedWith, print, printed}
 use Rattle.model.specs.Neighbours.{checkMethod, checkNeighbours}
-use Rattle.model.specs.Method.{withIn, listsOf, fullOf}
+use Rattle.model.specs.Method.{withIn, listsOf, fullOf, meets, sendersOf}
 
 examples : T checkStarred × T checkFurther × T checkNeighbours × T checkMethod × (readSheet sheetA ≡ accepted (record { tasks = 2; points = 3 }))
 unfolding checkStarred checkFurther checkNeighbours checkMethod
     countBelow isBetween mapBelow
-    bit with without full size watchedIn withIn listsOf fullOf
+    bit with without full size watchedIn withIn listsOf fullOf meets sendersOf
     isOrder keepsPair keepsEveryPair pairWithin keepsPairsWithin isAdmissible isOrderWithin admissibleOrders noOrder essential pairsAllow
     load ruleCharge charges stepCost
     inSheet isSolution roundCost planCost plans solutions cheapest isCompletion completions costToGo
@@ -50,7 +50,7 @@ further = examples .1
 pub neighbours : T checkNeighbours
 neighbours = examples .2
 
--- the code's masks and powers of two
+-- the code's masks and powers of two, lists that meet, and what a task waits for
 pub method : T checkMethod
 method = examples .3
 

@@ -55,13 +55,9 @@ module _ {f : ℕ → ℕ} {a b : List ℕ} {i : ℕ} (s : Filled f a b i) where
 pub map-elements : (xs : List ℕ) → mapBelow (length xs) (λ i. getD xs i 0) ≡ xs
 map-elements xs = ext-getD 0 _ xs (length-mapBelow (length xs) _) (λ i l. mapBelow-at (length xs) (λ i. getD xs i 0) i 0 (rw length-mapBelow at l))
 
-map-places : (g : ℕ → ℕ) (xs : List ℕ) → mapBelow (length xs) (λ i. g (getD xs i 0)) ≡ map g xs
+pub map-places : (g : ℕ → ℕ) (xs : List ℕ) → mapBelow (length xs) (λ i. g (getD xs i 0)) ≡ map g xs
 map-places g xs = ext-getD (g 0) _ (map g xs) (length-mapBelow (length xs) _ ∙ sym (length-map xs g)) (λ i l.
     mapBelow-at (length xs) (λ i. g (getD xs i 0)) i (g 0) (rw length-mapBelow at l) ∙ sym (List·getD-map g xs i 0))
-
--- filled with g of each of its own elements
-pub all-mapped : (g : ℕ → ℕ) {a b : List ℕ} {i : ℕ} → Filled (λ j. g (getD a j 0)) a b i → length b ≤ i → b ≡ map g a
-all-mapped g {a} s l = all-filled s l ∙ map-places g a
 
 -- ---- an array of doors, with one door more
 

@@ -1,5 +1,5 @@
 -- Finishing a round of a sheet that can be planned, from every point with every list open: Bellman's equation, and the first door of the cheapest completion. Assumes nothing.
-use mathlib.Core.Path.{_≡_, sym, ap, ap₂, _∙_, subst, subst₂, fun-ext}
+use mathlib.Core.Path.{_≡_, sym, ap, _∙_, subst, subst₂, fun-ext}
 use mathlib.Core.Bool.{true}
 use mathlib.Core.List.{List, [], _∷_, map, List·Memᴰ, List·Memᴰ·not-nil}
 use mathlib.Core.Option.{some}
@@ -7,22 +7,20 @@ use Prim.Native.Nat.{ℕ, suc, _+_, _^_, _≤_, _<_}
 use native.Mathlib.Nat.{lt-of-le-of-lt}
 use native.Mathlib.Omega.{arith}
 use lib.Pow.{areBytes}
-use borrow.Author.Tests.{lt-ltb}
 use Rattle.model.specs.Folds.{least}
 use Rattle.model.specs.TaskList.{without, full, size}
 use Rattle.model.specs.Sheet.{Sheet}
 use Rattle.model.specs.Method.{canComeFirst, firstDoors}
-use Rattle.model.specs.Cost.{stepCost, cost}
+use Rattle.model.specs.Cost.{stepCost}
 use Rattle.model.specs.Plans.{isCompletion, completions, costToGo, cheapestCompletion}
 use Rattle.model.specs.SheetLayout.{decode}
-use Rattle.model.proofs.Tests.{and-both}
 use Rattle.model.proofs.Masks.{full-bit, without-le}
+use Rattle.model.proofs.Process as process
 use Rattle.model.proofs.Process.{runs, toGo, through, bellman, FirstStep, first-step}
 use Rattle.model.specs.Passing.{CountsWithin, Plannable}
-use Rattle.model.proofs.Completions.{Position, driving, completes-is, completions-are, open-is, to-go-is, cheapest-is}
+use Rattle.model.proofs.Completions.{Position, driving, completes-is, completions-are, cost-is, to-go-is, cheapest-is}
 use Rattle.model.proofs.Existence.{part, part-within, admissible-is, order-driven}
 use Rattle.model.proofs.Enumerations.{has-order, completion-listed}
-use Rattle.model.proofs.Cheapest.{to-go-attained}
 use Rattle.model.proofs.Bounds.{Limits, sumLimit, WithinLimits, cost-bound, kind1Limits, kind1-sums, kind1-within}
 
 -- door d, and the cost to go from where it leads
@@ -53,10 +51,11 @@ module _ (S : Sheet) (G : Plannable S) where
     through-all : through (driving S (G .ranges)) here ≡ throughDoor S K p
     through-all = fun-ext through-is
 
-    module _ (k : ℕ) (more : size (S .tasks) K ≡ suc k) where
-      live : (d : ℕ) → d < S .doors → canComeFirst S K (S .task d) ≡ true → runs (driving S (G .ranges)) (record { list = without K (S .task d); point = S .depart d }) ≡ [] → ⊥
-      live d l e h = some-completion (without K (S .task d)) (completions-are S (G .ranges) (without K (S .task d)) (S .depart d) ∙ h)
+    -- every door that can come first leads to a completion
+    live : (d : ℕ) → d < S .doors → canComeFirst S K (S .task d) ≡ true → runs (driving S (G .ranges)) (record { list = without K (S .task d); point = S .depart d }) ≡ [] → ⊥
+    live d l e h = some-completion (without K (S .task d)) (completions-are S (G .ranges) (without K (S .task d)) (S .depart d) ∙ h)
 
+    module _ (k : ℕ) (more : size (S .tasks) K ≡ suc k) where
       -- Bellman's equation, from every point with every list open
       pub to-go-by-first : costToGo S K p ≡ least (map (throughDoor S K p) (firstDoors S K))
       unfolding firstDoors here
@@ -94,18 +93,13 @@ module _ (S : Sheet) (G : Plannable S) where
             goes-on = cheapest-is S (G .ranges) (without K (S .task (f .choice))) (S .depart (f .choice)) (omega (arith, without-le K (S .task (f .choice)))) ∙ f .goes-on;
           }
 
-    -- what a door costs with the cost to go from where it leads is the cost of a completion
-    pub through-attained : (d : ℕ) → d < S .doors → canComeFirst S K (S .task d) ≡ true → (ds : List ℕ) × (isCompletion S K ds ≡ true) × (cost S p ds ≡ throughDoor S K p d)
-    unfolding throughDoor
-    through-attained d l e =
-        let r = to-go-attained S (without K (S .task d)) (S .depart d) (some-completion (without K (S .task d))) in
-        let c : isCompletion S K (d ∷ r .0) ≡ true = sym (completes-is S (G .ranges) (d ∷ r .0) K p)
-        ∙ and-both (and-both (lt-ltb d (S .doors) l) e) (completes-is S (G .ranges) (r .0) (without K (S .task d)) (S .depart d) ∙ r .1) in
-        (d ∷ r .0, c, ap₂ (λ (m v : ℕ). stepCost S m p d + v) (open-is S (G .ranges) (d ∷ r .0) K below c) (r .2))
-
-    -- so it is within the limits of a sum
+    -- what a door costs with the cost to go from where it leads is the cost of a completion, and so within the limits of a sum
     pub through-bound : (L : Limits) → WithinLimits L S → (d : ℕ) → d < S .doors → canComeFirst S K (S .task d) ≡ true → throughDoor S K p d ≤ sumLimit L
-    through-bound L W d l e = let a = through-attained d l e in subst (λ (v : ℕ). v ≤ sumLimit L) (a .2) (cost-bound L S W K p (a .0) (a .1))
+    unfolding here
+    through-bound L W d l e = subst (λ (v : ℕ). v ≤ sumLimit L) (through-is d)
+        (process.through-bound (driving S (G .ranges)) here d l e (live d l e) (sumLimit L)
+        (λ ds h. let c : isCompletion S K ds ≡ true = sym (completes-is S (G .ranges) ds K p) ∙ h in
+        subst (λ (v : ℕ). v ≤ sumLimit L) (cost-is S (G .ranges) ds K p below c) (cost-bound L S W K p ds c)))
 
 -- of a sheet of kind 1 it is below 2 ^ 40, as each cost to go is (`to-go-small`, Bounds); nothing is asked of 16
 pub through-small : (b : List ℕ) → areBytes b ≡ true → CountsWithin (decode b) → Plannable (decode b) → (K p d : ℕ) → K < 2 ^ decode b .tasks → d < decode b .doors

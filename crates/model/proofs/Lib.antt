@@ -11,6 +11,7 @@ pub mod OpenLists
 pub mod Choices
 pub mod Scans
 pub mod Process
+pub mod ProcessStarts
 pub mod Counting
 pub mod Positions
 pub mod Ranks
@@ -23,15 +24,16 @@ pub mod Passing
 pub mod FirstTask
 pub mod Completions
 pub mod Existence
+pub mod Solutions
 pub mod OpenAlong
 pub mod Enumerations
 pub mod NoOrder
 pub mod Cheapest
-pub mod Solutions
 pub mod Numbers
 pub mod Overwriting
 pub mod Rows
 pub mod Widths
+pub mod Charges
 pub mod Bounds
 pub mod Driving
 pub mod Starts

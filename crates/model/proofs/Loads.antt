@@ -14,7 +14,7 @@ use Rattle.model.specs.TaskList.{bit, member}
 use Rattle.model.specs.Sheet.{Sheet}
 use Rattle.model.specs.Cost.{loadBelow, load}
 use Rattle.model.specs.Faults.{lightestBelow, tooLight}
-use Rattle.model.specs.Passing.{down, Light}
+use Rattle.model.specs.Passing.{down, Light, LoadsHold}
 use Rattle.model.proofs.Tests.{tested}
 use Rattle.model.proofs.Folds.{sum-le, sum-mono}
 use Rattle.model.proofs.Masks.{bit-cases}
@@ -142,3 +142,7 @@ load-is S K h = load-over S K (S .tasks) ∙ sub-pos (S .endLoad + ups S K (S .t
 -- where 16 does not apply, no list of tasks has a load below zero
 pub load-not-negative : (S : Sheet) (K : ℕ) → Light S → T (nonNeg (load S K))
 load-not-negative S K h = rw (load-is S K h) tt
+
+-- so where 16 does not apply, the loads hold that costing asks for
+pub loads-hold : (S : Sheet) → Light S → LoadsHold S
+loads-hold S h K l e = load-not-negative S K h

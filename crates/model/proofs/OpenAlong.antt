@@ -1,22 +1,28 @@
--- Along a completion of a list that the pairs allow, and so along a solution, every list that is open is one that they allow: essential or empty. Assumes nothing.
+-- Along a solution every list that is open is one that the pairs allow: essential, with a load that holds, while a door is to come, and then empty. Assumes nothing.
 use mathlib.Core.Path.{_≡_, refl, sym, ap, _∙_}
 use mathlib.Core.Bool.{Bool, true, false, not, _&&_, _||_, or-true}
 use mathlib.Core.List.{List, [], _∷_, map}
 use Prim.Native.Nat.{ℕ, zero, suc, _^_, _<_}
 use native.Mathlib.Omega.{arith}
-use lib.Dec.{eqb, ltb}
-use lib.ListN.{drop}
-use Rattle.model.specs.TaskList.{member, without, full, maskOf}
+use lib.Dec.{T, eqb, ltb}
+use lib.ListN.{length, drop}
+use lib.Pow.{pow-pos}
+use lib.Signed.{nonNeg}
+use borrow.Author.Tests.{ne-eqb, ltb-true}
+use Rattle.model.specs.TaskList.{bit, member, without, full, maskOf}
 use Rattle.model.specs.Sheet.{Sheet}
 use Rattle.model.specs.Orders.{isAdmissible, essential, pairsAllow}
 use Rattle.model.specs.Method.{canComeFirst}
+use Rattle.model.specs.Cost.{load}
 use Rattle.model.specs.Plans.{inSheet, isSolution, isCompletion}
 use Rattle.model.proofs.Tests.{and-left, and-right, and-both, all-below}
-use Rattle.model.proofs.Masks.{full-bit, full-lt, without-le}
-use Rattle.model.specs.Passing.{InRange}
+use Rattle.model.proofs.Masks.{bit-none, full-bit, full-lt, without-le, with-same}
+use Rattle.model.proofs.OpenLists.{with-lt}
+use Rattle.model.specs.Passing.{InRange, LoadsHold}
 use Rattle.model.proofs.FirstTask.{allow-without}
 use Rattle.model.proofs.Completions.{completes-is, open-is}
 use Rattle.model.proofs.Existence.{admissible-is}
+use Rattle.model.proofs.Solutions.{solution}
 
 module _ (S : Sheet) (R : InRange S) where
   -- K at step i has the tasks of the doors from there on; behind the last door it is empty
@@ -47,3 +53,32 @@ module _ (S : Sheet) (R : InRange S) where
   solution-allowed s ds e = open-allowed (full (S .tasks)) ds (full-lt (S .tasks)) full-allowed (and-both
       (and-right (ltb s (S .starts)) (inSheet S ds) (and-left (ltb s (S .starts) && inSheet S ds) (isAdmissible S (map (S .task) ds)) e))
       (sym (admissible-is S R (map (S .task) ds)) ∙ and-right (ltb s (S .starts) && inSheet S ds) (isAdmissible S (map (S .task) ds)) e))
+
+  -- ---- while a door is to come
+
+  -- the list has that door's task
+  open-some : (ds : List ℕ) (i : ℕ) → i < length ds → maskOf (map (S .task) (drop i ds)) ≡ 0 → ⊥
+  open-some [] i l e = absurd (omega arith)
+  open-some (d ∷ ds) zero l e = absurd (omega (arith, with-same (maskOf (map (S .task) ds)) (S .task d), ap (λ (K : ℕ). bit K (S .task d)) e, bit-none (S .task d)))
+  open-some (d ∷ ds) (suc i) l e = open-some ds i (omega arith) e
+
+  -- so it is essential
+  pub solution-essential : (s : ℕ) (ds : List ℕ) → isSolution S s ds ≡ true → (i : ℕ) → i < length ds → essential S (maskOf (map (S .task) (drop i ds))) ≡ true
+  unfolding pairsAllow
+  solution-essential s ds e i l = rw (ne-eqb (maskOf (map (S .task) (drop i ds))) 0 (open-some ds i l)) at (solution-allowed s ds e i)
+
+  open-listed : (ds : List ℕ) → inSheet S ds ≡ true → (i : ℕ) → maskOf (map (S .task) (drop i ds)) < 2 ^ S .tasks
+  unfolding inSheet
+  open-listed [] h zero = pow-pos (S .tasks)
+  open-listed [] h (suc i) = pow-pos (S .tasks)
+  open-listed (d ∷ ds) h zero = with-lt (S .tasks) (maskOf (map (S .task) ds)) (S .task d)
+      (open-listed ds (and-right (ltb d (S .doors)) (inSheet S ds) h) zero) (R .task d (ltb-true d (S .doors) (and-left (ltb d (S .doors)) (inSheet S ds) h)))
+  open-listed (d ∷ ds) h (suc i) = open-listed ds (and-right (ltb d (S .doors)) (inSheet S ds) h) i
+
+  -- it is one of the sheet's tasks
+  pub solution-listed : (s : ℕ) (ds : List ℕ) → isSolution S s ds ≡ true → (i : ℕ) → maskOf (map (S .task) (drop i ds)) < 2 ^ S .tasks
+  solution-listed s ds e = open-listed ds (solution S s ds e .doors)
+
+  -- and its load is not below zero where no essential list's is
+  pub solution-loads : LoadsHold S → (s : ℕ) (ds : List ℕ) → isSolution S s ds ≡ true → (i : ℕ) → i < length ds → T (nonNeg (load S (maskOf (map (S .task) (drop i ds)))))
+  solution-loads h s ds e i l = h (maskOf (map (S .task) (drop i ds))) (solution-listed s ds e i) (solution-essential s ds e i l)

@@ -1,5 +1,5 @@
 -- A process that is run to its end: its completions by their first choice, Bellman's equation, and the first completion of least cost. Assumes nothing.
-use mathlib.Core.Path.{_≡_, refl, sym, ap, ap₂, _∙_}
+use mathlib.Core.Path.{_≡_, refl, sym, ap, ap₂, _∙_, subst}
 use mathlib.Core.Logic.{⊎-elim}
 use mathlib.Core.Bool.{Bool, true, false, cond, _&&_}
 use mathlib.Core.List.{List, [], _∷_, map}
@@ -9,11 +9,11 @@ use native.Mathlib.Omega.{arith}
 use lib.Dec.{eqb, ltb}
 use borrow.Author.Tests.{eq-eqb, lt-ltb}
 use Rattle.model.specs.Folds.{flatMapBelow, passingBelow, listsBelow, keepIf, firstLeast, least}
-use Rattle.model.proofs.Tests.{tested}
+use Rattle.model.proofs.Tests.{tested, and-both}
 use Rattle.model.proofs.Folds.{flat-cong, keep-flat, keep-cong, keep-none, keep-map}
-use Rattle.model.proofs.Lists.{All, all-flat}
+use Rattle.model.proofs.Lists.{All, AllSome, all-flat, all-kept}
 use Rattle.model.proofs.Scans.{Scanned, scan}
-use Rattle.model.proofs.Choices.{first-map, first-shift, first-cong, first-flat, first-some, costOf, least-is}
+use Rattle.model.proofs.Choices.{first-map, first-shift, first-cong, first-flat, first-some, all-first, costOf, least-is}
 
 pub record Process : Type 1 where
   pub State : Type 0
@@ -91,6 +91,28 @@ module _ (P : Process) where
   pub best-some : (x : P .State) → (runs x ≡ [] → ⊥) → (cs : List ℕ) × (bestRun x ≡ some cs)
   unfolding bestRun
   best-some x h = first-some (runCost x) (runs x) h
+
+  pub best-completes : (x : P .State) (cs : List ℕ) → bestRun x ≡ some cs → completes x cs ≡ true
+  unfolding bestRun
+  best-completes x cs e = subst (AllSome (λ cs. completes x cs ≡ true)) e
+      (all-first _ (runCost x) (runs x) (all-kept _ (completes x) (λ cs h. h) (listsBelow (P .choices) (P .left x))))
+
+  -- ---- one choice that leads to a completion
+
+  module _ (x : P .State) (c : ℕ) (below : c < P .choices) (is-able : P .able x c ≡ true) (leads : runs (P .next x c) ≡ [] → ⊥) where
+    -- what it costs with the cost to go from where it leads is the cost of a completion
+    pub through-attained : (cs : List ℕ) × (completes x cs ≡ true) × (runCost x cs ≡ through x c)
+    unfolding through
+    through-attained =
+        let r = best-some (P .next x c) leads in (
+          c ∷ r .0,
+          and-both (and-both (lt-ltb c (P .choices) below) is-able) (best-completes (P .next x c) (r .0) (r .1)),
+          ap (λ (v : ℕ). P .stepCost x c + v) (sym (best-cost (P .next x c) (r .0) (r .1))),
+        )
+
+    -- so no bound of the completions' costs is below it
+    pub through-bound : (B : ℕ) → ((cs : List ℕ) → completes x cs ≡ true → runCost x cs ≤ B) → through x c ≤ B
+    through-bound B h = subst (λ (v : ℕ). v ≤ B) (through-attained .2) (h (through-attained .0) (through-attained .1))
 
   -- ---- one step, from a state in which every choice that can be made leads to a completion
 

@@ -13,10 +13,16 @@ use Rattle.model.specs.Sheet.{Sheet}
 use Rattle.model.specs.Orders.{isOrder, keepsEveryPair, isAdmissible}
 use Rattle.model.specs.Plans.{inSheet, isSolution}
 use Rattle.model.proofs.Tests.{and-left, and-right, and-both}
+use Rattle.model.proofs.Elements.{in-at}
 use Rattle.model.proofs.Masks.{size-full}
 use Rattle.model.specs.Passing.{CountsWithin}
 use Rattle.model.proofs.Counting.{order-length}
 use Rattle.model.proofs.Positions.{passes-everywhere}
+
+-- each door of a route whose doors are in the sheet
+pub door-in : (S : Sheet) (ds : List ℕ) → inSheet S ds ≡ true → (i : ℕ) → i < length ds → getD ds i 0 < S .doors
+unfolding inSheet
+door-in S ds h i l = ltb-true (getD ds i 0) (S .doors) (in-at (λ d. ltb d (S .doors)) ds 0 h i l)
 
 pub record SolutionTests (S : Sheet) (s : ℕ) (ds : List ℕ) : Type 0 where
   pub start : s < S .starts

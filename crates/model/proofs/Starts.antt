@@ -1,23 +1,23 @@
 -- The cheapest plan of a sheet that can be planned: the first start of least cost to go, and the cheapest completion from there. Assumes nothing.
-use mathlib.Core.Path.{_≡_, refl, sym, ap, _∙_}
-use mathlib.Core.Bool.{true, true≢false}
+use mathlib.Core.Path.{_≡_, sym, ap, _∙_, subst₂, fun-ext}
+use mathlib.Core.Bool.{true}
 use mathlib.Core.List.{List, [], map}
-use mathlib.Core.Option.{Option, none, some, Option·map, Option·getD}
+use mathlib.Core.Option.{some}
 use Prim.Native.Nat.{ℕ, _≤_, _<_}
 use borrow.Author.Tests.{lt-ltb}
 use Rattle.model.specs.Folds.{flatMapBelow, passingBelow, listsBelow, keepIf, firstLeast}
 use Rattle.model.specs.TaskList.{full}
 use Rattle.model.specs.Sheet.{Sheet}
-use Rattle.model.specs.Cost.{cost}
-use Rattle.model.specs.Plans.{isSolution, roundCost, planCost, plans, solutions, cheapest, isCompletion, completions, costToGo, cheapestCompletion}
+use Rattle.model.specs.Plans.{Plan, isSolution, roundCost, planCost, plans, solutions, cheapest, isCompletion, completions, costToGo, cheapestCompletion}
+use Rattle.model.specs.Passing.{Plannable}
 use Rattle.model.proofs.Folds.{flat-cong, keep-flat, keep-cong, keep-map}
-use Rattle.model.proofs.Masks.{size-full}
-use Rattle.model.proofs.Lists.{all-flat}
-use Rattle.model.proofs.Choices.{first-some, costOf, least-is, first-map, first-cong, first-flat}
-use Rattle.model.proofs.Scans.{Scanned, scan}
+use Rattle.model.proofs.Masks.{full-lt, size-full}
+use Rattle.model.proofs.Process.{Process, completes, runs, runCost, toGo, bestRun}
+use Rattle.model.proofs.ProcessStarts as process
+use Rattle.model.proofs.ProcessStarts.{started, started-from}
+use Rattle.model.proofs.Completions.{Position, driving, completes-is, completions-are, cost-is, to-go-is, cheapest-is}
 use Rattle.model.proofs.Existence.{admissible-is}
 use Rattle.model.proofs.Driving.{some-completion}
-use Rattle.model.specs.Passing.{Plannable}
 
 module _ (S : Sheet) (G : Plannable S) where
   -- a solution from a start of the sheet is a completion of the full list
@@ -33,6 +33,38 @@ module _ (S : Sheet) (G : Plannable S) where
       (keep-cong _ (isCompletion S (full (S .tasks))) (λ ds. solution-completes s ds l) (listsBelow (S .doors) (S .tasks))
       ∙ ap (λ (n : ℕ). keepIf (isCompletion S (full (S .tasks))) (listsBelow (S .doors) n)) (sym (size-full (S .tasks)))))
 
+  abbrev D : Process
+  D = driving S (G .ranges)
+
+  -- driving from each start with everything open, and the plan that a start and doors are
+  from : ℕ → Position
+  from s = record { list = full (S .tasks); point = S .startPoint s }
+
+  plan : ℕ → List ℕ → Plan
+  plan s ds = record { start = s; doors = ds }
+
+  live : (s : ℕ) → s < S .starts → runs D (from s) ≡ [] → ⊥
+  unfolding from
+  live s l h = some-completion S G (full (S .tasks)) (completions-are S (G .ranges) (full (S .tasks)) (S .startPoint s) ∙ h)
+
+  costs : (s : ℕ) → s < S .starts → (ds : List ℕ) → completes D (from s) ds ≡ true → planCost S (plan s ds) ≡ runCost D (from s) ds
+  unfolding from plan planCost roundCost
+  costs s l ds h = cost-is S (G .ranges) ds (full (S .tasks)) (S .startPoint s) (full-lt (S .tasks)) (sym (completes-is S (G .ranges) ds (full (S .tasks)) (S .startPoint s)) ∙ h)
+
+  cheapest-started : cheapest S ≡ firstLeast (planCost S) (started D (S .starts) from plan)
+  unfolding cheapest from plan
+  cheapest-started = ap (firstLeast (planCost S)) (solutions-by-start
+      ∙ flat-cong (S .starts) _ _ (λ s l. ap (map (plan s)) (completions-are S (G .ranges) (full (S .tasks)) (S .startPoint s))))
+
+  -- each start's cost to go
+  to-go-from : (s : ℕ) → toGo D (from s) ≡ costToGo S (full (S .tasks)) (S .startPoint s)
+  unfolding from
+  to-go-from s = sym (to-go-is S (G .ranges) (full (S .tasks)) (S .startPoint s) (full-lt (S .tasks)))
+
+  cheapest-there : (s : ℕ) → cheapestCompletion S (full (S .tasks)) (S .startPoint s) ≡ bestRun D (from s)
+  unfolding from
+  cheapest-there s = cheapest-is S (G .ranges) (full (S .tasks)) (S .startPoint s) (full-lt (S .tasks))
+
   -- the cheapest plan: no start has a lesser cost to go, none before it the same, and its doors are the cheapest completion from there
   pub record FirstStart : Type 0 where
     pub start : ℕ
@@ -43,61 +75,26 @@ module _ (S : Sheet) (G : Plannable S) where
     pub from-there : cheapestCompletion S (full (S .tasks)) (S .startPoint start) ≡ some route
     pub is-cheapest : cheapest S ≡ some (record { start = start; doors = route })
 
-  routeFrom : ℕ → List ℕ
-  routeFrom s = Option·getD (cheapestCompletion S (full (S .tasks)) (S .startPoint s)) []
-
-  route-is : (s : ℕ) → cheapestCompletion S (full (S .tasks)) (S .startPoint s) ≡ some (routeFrom s)
-  unfolding routeFrom cheapestCompletion
-  route-is s = let r = first-some (cost S (S .startPoint s)) (completions S (full (S .tasks))) (some-completion S G (full (S .tasks))) in r .1 ∙ ap (λ o. some (Option·getD o [])) (sym (r .1))
-
-  route-cost : (s : ℕ) → planCost S (record { start = s; doors = routeFrom s }) ≡ costToGo S (full (S .tasks)) (S .startPoint s)
-  unfolding planCost roundCost costToGo cheapestCompletion
-  route-cost s = sym (least-is (cost S (S .startPoint s)) (completions S (full (S .tasks))) ∙ ap (costOf (cost S (S .startPoint s))) (route-is s))
-
-  route-doors : (s : ℕ) (ds : List ℕ) → cheapestCompletion S (full (S .tasks)) (S .startPoint s) ≡ some ds → routeFrom s ≡ ds
-  unfolding routeFrom
-  route-doors s ds q = ap (λ o. Option·getD o []) q
-
-  -- each start's cost to go
-  fromStart : ℕ → ℕ
-  fromStart s = costToGo S (full (S .tasks)) (S .startPoint s)
-
-  starts-in-order : List ℕ
-  starts-in-order = passingBelow (S .starts) (λ s. true)
-
-  cheapest-by-start : cheapest S ≡ Option·map (λ s. record { start = s; doors = routeFrom s }) (firstLeast fromStart starts-in-order)
-  unfolding cheapest planCost roundCost cheapestCompletion fromStart starts-in-order
-  cheapest-by-start = ap (firstLeast (planCost S)) solutions-by-start
-      ∙ first-flat (planCost S) (λ s. map (λ (ds : List ℕ). record { start = s; doors = ds }) (completions S (full (S .tasks)))) (λ s. true) (λ s. record { start = s; doors = routeFrom s }) (S .starts)
-      (λ s l w. first-map (planCost S) (λ (ds : List ℕ). record { start = s; doors = ds }) (completions S (full (S .tasks)))
-      ∙ ap (Option·map (λ (ds : List ℕ). record { start = s; doors = ds })) (route-is s))
-      (λ s l w. absurd (true≢false w))
-      ∙ ap (Option·map (λ s. record { start = s; doors = routeFrom s }))
-      (first-cong (λ s. planCost S (record { start = s; doors = routeFrom s })) fromStart starts-in-order
-      (all-flat _ (S .starts) _ (λ s l. (route-cost s, tt))))
-
   pub first-start : 0 < S .starts → FirstStart
-  unfolding starts-in-order fromStart
-  first-start some-start = go (firstLeast fromStart starts-in-order) refl (scan fromStart (λ s. true) (S .starts))
-    where
-      go : (o : Option ℕ) → firstLeast fromStart starts-in-order ≡ o → Scanned fromStart (λ s. true) (S .starts) o → FirstStart
-      go none e h = absurd (true≢false (h 0 some-start))
-      go (some s) e h = record {
-        start = s;
-        route = routeFrom s;
-        in-sheet = h .below;
-        none-less = λ i l. h .least-one i l refl;
-        none-before = λ i l. h .first-one i l refl;
-        from-there = route-is s;
-        is-cheapest = cheapest-by-start ∙ ap (Option·map (λ s. record { start = s; doors = routeFrom s })) e;
+  unfolding plan
+  first-start some-start =
+      let f : process.FirstStart D (S .starts) from live plan (planCost S) costs = process.first-start D (S .starts) from live plan (planCost S) costs some-start in
+      record {
+        start = f .start;
+        route = f .run;
+        in-sheet = f .below;
+        none-less = λ s l. subst₂ (λ (x y : ℕ). x ≤ y) (to-go-from (f .start)) (to-go-from s) (f .none-less s l);
+        none-before = λ s l. subst₂ (λ (x y : ℕ). x < y) (to-go-from (f .start)) (to-go-from s) (f .none-before s l);
+        from-there = cheapest-there (f .start) ∙ f .from-there;
+        is-cheapest = cheapest-started ∙ f .is-first;
       }
 
   -- the cheapest plan is that of the first start of least cost to go, through the cheapest completion from there, and costs as much
   pub cheapest-from : (s : ℕ) (ds : List ℕ) → firstLeast (λ s. costToGo S (full (S .tasks)) (S .startPoint s)) (passingBelow (S .starts) (λ s. true)) ≡ some s
       → cheapestCompletion S (full (S .tasks)) (S .startPoint s) ≡ some ds
       → (cheapest S ≡ some (record { start = s; doors = ds })) × (planCost S (record { start = s; doors = ds }) ≡ costToGo S (full (S .tasks)) (S .startPoint s))
-  unfolding fromStart starts-in-order
-  cheapest-from s ds e q = (
-    cheapest-by-start ∙ ap (Option·map (λ s. record { start = s; doors = routeFrom s })) e ∙ ap (λ ds. some (record { start = s; doors = ds })) (route-doors s ds q),
-    ap (λ ds. planCost S (record { start = s; doors = ds })) (sym (route-doors s ds q)) ∙ route-cost s,
-  )
+  unfolding plan
+  cheapest-from s ds e q =
+      let r = started-from D (S .starts) from live plan (planCost S) costs s ds
+      (ap (λ (f : ℕ → ℕ). firstLeast f (passingBelow (S .starts) (λ s. true))) (fun-ext to-go-from) ∙ e) (sym (cheapest-there s) ∙ q) in
+      (cheapest-started ∙ r .0, r .1 ∙ to-go-from s)

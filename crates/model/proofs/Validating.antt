@@ -37,7 +37,7 @@ tasks-below S R (d ∷ ds) h = and-both
     (tasks-below S R ds (and-right (ltb d (S .doors)) (inSheet S ds) h))
 
 -- what passes 31 to 33 is a solution
-passes-judge : (S : Sheet) → InRange S → (s : ℕ) (ds : List ℕ) → length ds ≡ S .tasks → notInSheet S s ds ≡ false → doneTwice S (map (S .task) ds) ≡ false → keepsEveryPair S (map (S .task) ds) ≡ true
+pub passes-judge : (S : Sheet) → InRange S → (s : ℕ) (ds : List ℕ) → length ds ≡ S .tasks → notInSheet S s ds ≡ false → doneTwice S (map (S .task) ds) ≡ false → keepsEveryPair S (map (S .task) ds) ≡ true
     → SolutionTests S s ds
 unfolding notInSheet doneTwice
 passes-judge S R s ds e p₁ p₂ p₃ =
@@ -48,6 +48,11 @@ passes-judge S R s ds e p₁ p₂ p₃ =
       order = order-of-all (S .tasks) (map (S .task) ds) (tasks-below S R ds i) (length-map ds (S .task) ∙ e) (λ t l. ltb-false 1 _ (none-at (S .tasks) (λ t. ltb 1 (countOf t (map (S .task) ds))) p₂ t l));
       pairs = p₃;
     }
+
+pub judged-solution : (S : Sheet) → InRange S → (s : ℕ) (ds : List ℕ) → length ds ≡ S .tasks → notInSheet S s ds ≡ false → doneTwice S (map (S .task) ds) ≡ false → breaksPair S (map (S .task) ds) ≡ false
+    → isSolution S s ds ≡ true
+unfolding breaksPair
+judged-solution S R s ds e p₁ p₂ p₃ = is-solution S s ds (passes-judge S R s ds e p₁ p₂ (not-false _ p₃))
 
 -- and a solution passes them
 in-sheet : (S : Sheet) (s : ℕ) (ds : List ℕ) → SolutionTests S s ds → notInSheet S s ds ≡ false
@@ -75,7 +80,7 @@ validate-for-iff S R s ds c c' e = (there, back)
     there a =
         let p = accepted-pass (routeTests S s ds c) (accepted c) c' a in
         let t = p .0 in
-        (is-solution S s ds (passes-judge S R s ds e (t .0) (t .1 .0) (not-false _ (t .1 .1 .0))), eqb-true _ _ (not-false _ (t .1 .1 .1 .0)), sym (accepted-value (p .1)))
+        (judged-solution S R s ds e (t .0) (t .1 .0) (t .1 .1 .0), eqb-true _ _ (not-false _ (t .1 .1 .1 .0)), sym (accepted-value (p .1)))
 
     back : (isSolution S s ds ≡ true) × (c ≡ roundCost S s ds) × (c' ≡ c) → validateFor S s ds c ≡ accepted c'
     back h =

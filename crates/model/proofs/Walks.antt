@@ -1,43 +1,18 @@
 -- A loop that walks a list: what a definition that goes by the list's head says of the list from place i on. Assumes nothing.
-use mathlib.Core.Path.{_≡_, refl, sym, ap}
+use mathlib.Core.Path.{_≡_, sym}
 use mathlib.Core.Bool.{Bool, true, false}
-use mathlib.Core.List.{List, [], _∷_, map}
-use Prim.Native.Nat.{ℕ, zero, suc, _+_, _≤_, _<_}
+use mathlib.Core.List.{List, _∷_}
+use Prim.Native.Nat.{ℕ, _+_, _≤_, _<_}
 use native.Mathlib.Omega.{arith}
 use native.Mathlib.Numerals.{add-one}
-use lib.ListN.{length, getD, take, drop, drop-of-length-le}
+use lib.ListN.{length, getD, drop, drop-of-length-le}
 use lib.Seq.{drop-cons}
 use borrow.Author.Tests.{eq-eqb, ne-eqb}
-use Rattle.model.specs.Folds.{allIn, countOf, indexOf}
+use Rattle.model.specs.Folds.{allIn, indexOf}
 
 -- its element at i, then the list from i + 1 on
 pub from : (xs : List ℕ) (i : ℕ) → i < length xs → drop i xs ≡ getD xs i 0 ∷ drop (i + 1) xs
 from xs i l = rw (add-one, drop-cons xs i 0)
-
--- ---- how often t stands in the list: `count` times before i
-
-pub record Counted (t : ℕ) (xs : List ℕ) (count i : ℕ) : Type 0 where
-  pub within : i ≤ length xs
-  pub most : count ≤ i
-  pub total : count + countOf t (drop i xs) ≡ countOf t xs
-
-module _ {t : ℕ} {xs : List ℕ} {count i : ℕ} (h : Counted t xs count i) where
-  pub count-more : i < length xs → getD xs i 0 ≡ t → Counted t xs (count + 1) (i + 1)
-  count-more l e = record {
-    within = omega arith;
-    most = omega arith;
-    total = omega (arith, rw (from xs i l, eq-eqb (getD xs i 0) t e) at (h .total));
-  }
-
-  pub count-same : i < length xs → (getD xs i 0 ≡ t → ⊥) → Counted t xs count (i + 1)
-  count-same l e = record {
-    within = omega arith;
-    most = omega arith;
-    total = omega (arith, rw (from xs i l, ne-eqb (getD xs i 0) t e) at (h .total));
-  }
-
-  pub count-all : length xs ≤ i → count ≡ countOf t xs
-  count-all l = omega (arith, rw (drop-of-length-le xs l) at (h .total))
 
 -- ---- where t first stands in the list: not before i
 
@@ -73,9 +48,3 @@ module _ {test : ℕ → Bool} {xs : List ℕ} {i : ℕ} (h : PassedTo test xs i
 
   pub pass-all : length xs ≤ i → allIn test xs ≡ true
   pass-all l = sym (rw (drop-of-length-le xs l) at (h .rest))
-
--- f of the first n elements
-pub take-map : (f : ℕ → ℕ) (n : ℕ) (xs : List ℕ) → take n (map f xs) ≡ map f (take n xs)
-take-map f zero xs = refl
-take-map f (suc n) [] = refl
-take-map f (suc n) (x ∷ xs) = ap (λ (ys : List ℕ). f x ∷ ys) (take-map f n xs)

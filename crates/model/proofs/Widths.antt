@@ -10,7 +10,7 @@ use lib.Pow.{areBytes}
 use borrow.Author.Tests.{ltb-true, ltb-false}
 use Rattle.model.specs.Sheet.{Sheet}
 use Rattle.model.specs.Bytes.{signed}
-use Rattle.model.specs.SheetLayout.{Layout, tasksBody, doorsBody, startsBody, pairsBody, rulesBody, pointsBody, distancesBody, kind1, fieldWidth, entries, fieldAt, decodeBy, layoutOf, decode}
+use Rattle.model.specs.SheetLayout.{Layout, tasksBody, doorsBody, startsBody, pairsBody, rulesBody, pointsBody, distancesBody, kind1, fieldWidth, fieldAt, decodeBy, layoutOf, decode}
 use Rattle.model.proofs.Tests.{tested}
 use Rattle.model.proofs.Numbers.{number-lt}
 use Rattle.model.proofs.Loads.{up}
@@ -56,11 +56,6 @@ pub record Widths (S : Sheet) : Type 0 where
 pub field-lt : (L : Layout) (b : List ℕ) → areBytes b ≡ true → (i f e : ℕ) → fieldAt L b i f e < 256 ^ fieldWidth L i f
 unfolding fieldAt
 field-lt L b h i f e = number-lt (fieldWidth L i f) b _ h
-
--- nor is a number of entries above its 16 bits
-pub entries-lt : (b : List ℕ) → areBytes b ≡ true → (i : ℕ) → entries b i < 2 ^ 16
-unfolding entries
-entries-lt b h i = number-lt 2 b _ h
 
 -- a sheet of kind 1 has fields of these widths
 pub widths : (b : List ℕ) → areBytes b ≡ true → Widths (decode b)

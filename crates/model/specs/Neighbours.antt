@@ -1,18 +1,19 @@
 -- Further neighbours of sheet A, by a computed check on the definitions: two numbers at once, for every two that a call tests one after the other; the limits of the
 -- table, on both sides; numbers of two bytes; and what is allowed although it looks odd (01, Layout of a task sheet and Numbers a call can answer with). Assumes nothing.
-use mathlib.Core.Bool.{Bool, _&&_}
+use mathlib.Core.Bool.{Bool, not, _&&_}
 use mathlib.Core.List.{List, [], _∷_, _++_}
 use Prim.Native.Nat.{ℕ, _-_}
 use lib.Dec.{eqb}
 use lib.ListN.{length, getD, set, take, drop}
 use Rattle.model.specs.Folds.{flatMapBelow, sameList}
 use Rattle.model.specs.Answer.{refused, accepted}
+use Rattle.model.specs.SheetLayout.{decode}
 use Rattle.model.specs.Faults.{readSheet}
 use Rattle.model.specs.PlanLayout.{writePlan, readPlan}
 use Rattle.model.specs.Validating.{validate}
 use Rattle.model.specs.Planning.{plan}
 use Rattle.model.specs.Examples.{sheetA, headOf, likeA, pairBytes, ruleBytes, paired, ringed, sheetB, cellNoise, byteNoise, planA, planLikeA, sameAnswer, readingRefuses, readingAnswers, planRefuses}
-use Rattle.model.specs.Method.{maskBits, withIn, listsOf, fullOf}
+use Rattle.model.specs.Method.{maskBits, withIn, listsOf, fullOf, meets, sendersOf}
 
 -- ---- sheets
 
@@ -72,7 +73,7 @@ threeDoors d₁ d₂ d₃ =
 
 -- ---- the checks
 
--- the code's masks have 32 bits, and its powers of two go up to twelve tasks
+-- the code's masks have 32 bits, and its powers of two go up to twelve tasks; lists that meet below a width; what a task waits for
 unfoldable pub checkMethod : Bool
 checkMethod =
     eqb (withIn maskBits 5 31) 2147483653
@@ -81,6 +82,12 @@ checkMethod =
     && eqb (listsOf 13) 0
     && eqb (fullOf 12) 4095
     && eqb (fullOf 13) 0
+    && meets 3 5 4
+    && not (meets 3 5 2)
+    && not (meets 2 5 4)
+    && eqb (sendersOf (decode ringed) 0) 2
+    && eqb (sendersOf (decode ringed) 1) 1
+    && eqb (sendersOf (decode sheetA) 0) 0
 
 unfoldable pub checkNeighbours : Bool
 checkNeighbours =

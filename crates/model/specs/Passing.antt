@@ -1,14 +1,17 @@
 -- What passing 10 to 15, and 16, means in plain facts (01, Layout of a task sheet and Numbers a call can answer with, which every definition here is from).
 -- Assumes nothing.
 use mathlib.Core.Path.{_≡_}
-use mathlib.Core.Bool.{false}
+use mathlib.Core.Bool.{true, false}
 use mathlib.Core.List.{List}
 use Prim.Native.Nat.{ℕ, suc, _^_, _≤_, _<_}
+use lib.Dec.{T}
 use lib.IntN.{ℤ, pos, negsuc}
 use lib.ListN.{length, getD}
+use lib.Signed.{nonNeg}
 use Rattle.model.specs.Folds.{sumBelow}
 use Rattle.model.specs.Sheet.{Sheet}
-use Rattle.model.specs.Orders.{noOrder}
+use Rattle.model.specs.Orders.{noOrder, essential}
+use Rattle.model.specs.Cost.{load}
 use Rattle.model.specs.Bytes.{numberAt}
 use Rattle.model.specs.SheetLayout.{Layout, pointsBody, bodies, maxTasks, maxDoors, maxStarts, maxPairs, maxRules, maxPoints, lineBody, lineOffset, entries, bodyAt, layoutOf, decode}
 
@@ -87,3 +90,7 @@ down (negsuc n) = suc n
 -- the end load plus all negative changes is not below zero: all that is taken away is at most the end load
 abbrev pub Light : Sheet → Type 0
 Light S = sumBelow (S .tasks) (λ j. down (S .change j)) ≤ S .endLoad
+
+-- no essential list has a load below zero, which is all that costing asks of 16 (01, Cost of a round)
+abbrev pub LoadsHold : Sheet → Type 0
+LoadsHold S = (K : ℕ) → K < 2 ^ S .tasks → essential S K ≡ true → T (nonNeg (load S K))

@@ -103,14 +103,14 @@ pub(crate) fn door_in(q: &[u8], i: u16) -> u16
 }
 
 // The cost that the bytes hold, behind n doors.
-pub(crate) fn cost_in(n: u16, q: &[u8]) -> u64
+pub fn cost_in(n: u16, q: &[u8]) -> u64
     ensures { λ r. ⌜ r ≡ costIn n (now (q .entry)) ⌝ }
 {
     read_u64(q, DOORS_AT + 2 * n as usize)
 }
 
 // Sets the doors lent: n that the bytes hold, and 0 from there on.
-pub(crate) fn read_doors(n: u16, q: &[u8], doors: &mut [u16])
+pub fn read_doors(n: u16, q: &[u8], doors: &mut [u16])
     ensures { λ _. ⌜ now (doors .exit) ≡ doorArray (length (now (doors .entry))) n (doorIn (now (q .entry))) ⌝ }
 {
     let mut i: usize = 0;

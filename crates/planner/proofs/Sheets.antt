@@ -4,28 +4,27 @@ use mathlib.Core.List.{List}
 use Prim.Native.Nat.{ℕ, _+_, _*_, _^_, _≤_, _<_}
 use native.Mathlib.Omega.{arith}
 use lib.Arith.{digits-lt}
-use lib.Dec.{lit<}
 use lib.ListN.{length}
 use lib.Pow.{pow-pos}
 use borrow.Author.Tests.{lt-ltb, le-ltb}
 use Rattle.model.specs.TaskList.{full}
 use Rattle.model.specs.Method.{maxListed, fullOf}
 use Rattle.model.specs.Answer.{refused}
-use Rattle.model.specs.SheetLayout.{distancesBody, kind1, decodeBy, layoutOf, decode}
+use Rattle.model.specs.SheetLayout.{decode}
 use Rattle.model.specs.Faults.{readSheet}
 use Rattle.model.specs.PlanLayout.{planLength, shortRoom}
 use Rattle.model.specs.Planning.{cellsNeeded, fewCells, roomTests, planFor, cellsAfter, plan}
 use Rattle.model.proofs.Masks.{full-lt, full-of}
-use Rattle.model.proofs.Entries.{entries-within, tasks-listed}
-use Rattle.model.proofs.Loads.{light, load-not-negative}
+use Rattle.model.proofs.Entries.{tasks-listed}
+use Rattle.model.proofs.Loads.{light, loads-hold}
 use Rattle.model.proofs.Reading.{Reads, reads-then, counts-read, refused-alike}
-use Rattle.model.proofs.Passing.{passes-iff}
-use Rattle.model.specs.Passing.{Passes}
 use Rattle.model.proofs.OpenAlong.{full-allowed}
 use Rattle.model.proofs.Planning.{length-cells, plan-refused, plannable}
 use Rattle.view.specs.declared.View.{View}
 use Rattle.view.specs.Views.{viewOf, Viewed}
 use Rattle.view.proofs.Counted.{tasks-are}
+use Rattle.sheet.proofs.Laid as Laid
+use Rattle.sheet.proofs.Laid.{reads-laid}
 use Rattle.table.specs.Cells.{Fillable}
 use Rattle.table.proofs.Filling.{shown-after}
 use Rattle.complete.specs.Completed.{Completable}
@@ -56,11 +55,7 @@ module _ (b : List ℕ) (h : Reads b) where
 
   module _ {v : View} (e : v ≡ viewOf b) where
     pub viewed : Viewed b v
-    unfolding layoutOf kind1 decodeBy decode
-    viewed =
-        let w = entries-within (layoutOf b) b (h .passed-tests .counts) distancesBody (lit< tt) in
-        let P : Passes b = passes-iff b .0 (h .passed-tests) in
-        record { is = e; square = omega (arith, w .0, w .1); ends = P .ends }
+    viewed = Laid.viewed (reads-laid h) e
 
     -- the code's full list is the full list
     pub full-is : {k : ℕ} → k ≡ fullOf (v .tasks) → k ≡ full (decode b .tasks)
@@ -71,7 +66,7 @@ module _ (b : List ℕ) (h : Reads b) where
       view = viewed;
       counts = counts-read b h;
       plannable = plannable b h;
-      loads = λ K l s. load-not-negative (decode b) K (light (decode b) (h .light));
+      loads = loads-hold (decode b) (light (decode b) (h .light));
     }
 
     -- of the cells once they are filled

@@ -7,7 +7,7 @@ ghost use Rattle.model.specs.Answer.{status};
 ghost use Rattle.model.specs.SheetLayout.{decode};
 ghost use Rattle.model.specs.Faults.{readSheet};
 ghost use Rattle.model.specs.Planning.{cellsNeeded, plan};
-ghost use Rattle.view.specs.Views.{Viewed};
+ghost use Rattle.view.specs.Views.{viewOf, Viewed};
 ghost use Rattle.planner.specs.Answers.{answerOf};
 ghost use Rattle.planner.specs.Choosing.{startCost, firstStart, Startable};
 use refusal::Refusal;
@@ -28,7 +28,7 @@ pub fn plan(s: &[u8], cells: &mut [u64], buf: &mut [u8]) -> Planning
 {
     let reading = sheet::read(s);
     match reading {
-        Reading::Read(_) => plan_sheet(s, cells, buf),
+        Reading::Read(v) => plan_sheet(s, v, cells, buf),
         Reading::Refused(refusal) => Planning::Refused(refusal),
     }
 }
@@ -70,14 +70,13 @@ fn first_start(s: &[u8], v: View, cells: &[u64]) -> u16
     best
 }
 
-// The same as `plan` for a sheet that reads: 20 and 21 are tested before anything is touched.
-fn plan_sheet(s: &[u8], cells: &mut [u64], buf: &mut [u8]) -> Planning
-    requires { ⌜ status (readSheet (now s)) ≡ 0 ⌝ }
+// The same as `plan` for a sheet that reads, with its view: 20 and 21 are tested before anything is touched.
+fn plan_sheet(s: &[u8], v: View, cells: &mut [u64], buf: &mut [u8]) -> Planning
+    requires { ⌜ (status (readSheet (now s)) ≡ 0) × (v ≡ viewOf (now s)) ⌝ }
     ensures answer { λ r. ⌜ answerOf r ≡ plan (now (s .entry)) (now (cells .entry)) (now (buf .entry)) .answer ⌝ }
     ensures cells { λ r. ⌜ now (cells .exit) ≡ plan (now (s .entry)) (now (cells .entry)) (now (buf .entry)) .cells ⌝ }
     ensures bytes { λ r. ⌜ now (buf .exit) ≡ plan (now (s .entry)) (now (cells .entry)) (now (buf .entry)) .bytes ⌝ }
 {
-    let v = View::of(s);
     let few = cells.len() < cells_needed(s, v);
     let short = buf.len() < plan::layout::byte_length(v.tasks);
     if few {

@@ -1,10 +1,10 @@
--- The end load and the negative changes so far, summed in 64 bits. Assumes nothing.
+-- The end load and the negative changes so far, summed in 32 bits. Assumes nothing.
 use mathlib.Core.Path.{_≡_, sym, ap, _∙_}
 use mathlib.Core.Bool.{true, false}
 use Prim.Native.Nat.{ℕ, suc, _^_, _<_}
 use lib.IntN.{ℤ, pos, _+ℤ_}
 use lib.Signed.{mag, ltZ}
-use mir.Syntax.{w16, w64}
+use mir.Syntax.{w16, w32}
 use mir.Val.{toZ, ofZ}
 use Rattle.model.specs.Sheet.{Sheet}
 use Rattle.model.specs.Faults.{lightestBelow, tooLight}
@@ -12,7 +12,7 @@ use Rattle.model.proofs.SignedSums.{back, SumBelow}
 
 -- the sum in the code, of the end load and the negative changes of the tasks below t
 abbrev pub LightestBelow : Sheet → ℕ → ℕ → Type 0
-LightestBelow S = SumBelow w16 w64 (lightestBelow S) 65535
+LightestBelow S = SumBelow w16 w32 (lightestBelow S) 65535
 
 module _ {S : Sheet} {t sum : ℕ} (h : LightestBelow S t sum) {x : ℤ} (e : x ≡ S .change t) (f : mag x < 2 ^ 15) where
   -- the sign that the code tests
@@ -25,6 +25,6 @@ module _ {S : Sheet} {t sum : ℕ} (h : LightestBelow S t sum) {x : ℤ} (e : x 
   pub not-taken : ltZ (toZ w16 (ofZ w16 x)) (pos 0) ≡ false → lightestBelow S (suc t) ≡ lightestBelow S t +ℤ pos 0
   not-taken n = rw (sign ∙ n)
 
-pub all-tasks : {S : Sheet} {t sum : ℕ} → LightestBelow S t sum → t ≡ S .tasks → ltZ (toZ w64 sum) (pos 0) ≡ tooLight S
+pub all-tasks : {S : Sheet} {t sum : ℕ} → LightestBelow S t sum → t ≡ S .tasks → ltZ (toZ w32 sum) (pos 0) ≡ tooLight S
 unfolding tooLight
 all-tasks {S} h e = ap (λ z. ltZ z (pos 0)) (h .is ∙ ap (lightestBelow S) e)

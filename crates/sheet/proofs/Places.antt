@@ -2,7 +2,9 @@
 use mathlib.Core.Path.{_≡_, refl}
 use mathlib.Core.Bool.{not, _||_}
 use mathlib.Core.List.{List, [], _∷_}
-use Prim.Native.Nat.{ℕ, _+_, _*_, _<_}
+use Prim.Native.Nat.{ℕ, _+_, _*_, _^_, _≤_, _<_}
+use native.Mathlib.Nat.{mul-le-mul-right}
+use native.Mathlib.Omega.{arith}
 use native.Mathlib.Numerals.{add-one}
 use lib.Dec.{eqb, ltb}
 use lib.ListN.{getD}
@@ -34,3 +36,7 @@ module _ (b : List ℕ) where
   -- the next body begins behind this one
   pub next-body : (i at n w : ℕ) → at ≡ bodyAt (layoutOf b) b i → n ≡ entries b i → w ≡ entryBytes (layoutOf b) i → at + n * w ≡ bodyAt (layoutOf b) b (i + 1)
   next-body i at n w a e f = rw (add-one, a, e, f)
+
+-- a body of 16 bits of entries is short
+pub product-lt : (e size : ℕ) → e < 2 ^ 16 → size < 2 ^ 32 → e * size < 2 ^ 48
+product-lt e size h s = let m : e * size ≤ 65535 * size = mul-le-mul-right size (omega arith) in omega arith

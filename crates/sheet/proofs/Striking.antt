@@ -1,59 +1,125 @@
--- Striking off as the code does it: a pair that a task waits for, a task struck off, one task more of a pass, one pass more; an empty list stays empty. Assumes nothing.
-use mathlib.Core.Path.{_≡_, refl, ap, _∙_}
-use mathlib.Core.Bool.{Bool, true, false, cond, not, _&&_}
+-- Striking off with what each task waits for at hand leaves what striking off leaves: of the tasks of K, those are free that wait for none of K. Assumes nothing.
+use mathlib.Core.Path.{_≡_, refl, sym, ap, _∙_}
+use mathlib.Core.Logic.{⊎-elim}
+use mathlib.Core.Bool.{Bool, true, false, cond, not, _&&_, _||_}
+use mathlib.Core.List.{List}
 use Prim.Native.Nat.{ℕ, zero, suc, _+_, _≤_, _<_}
 use native.Mathlib.Decide.{le-ind}
 use native.Mathlib.Numerals.{add-one}
+use native.Mathlib.Omega.{arith}
 use lib.Dec.{eqb}
-use Rattle.model.specs.Folds.{allBelow}
-use Rattle.model.specs.TaskList.{member, without}
+use lib.ListN.{getD}
+use borrow.Author.Tests.{eqb-true, eqb-false, eq-eqb, ne-eqb}
+use Rattle.model.specs.Folds.{allBelow, anyBelow, mapBelow}
+use Rattle.model.specs.TaskList.{member, with, without}
 use Rattle.model.specs.Sheet.{Sheet}
+use Rattle.model.specs.SheetLayout.{maxTasks}
 use Rattle.model.specs.Orders.{pairWithin}
-use Rattle.model.specs.Method.{isFree, canComeFirst, strikeBelow, strikeOff}
-use Rattle.model.proofs.Tests.{all-false, all-next}
-use Rattle.model.proofs.Masks.{bit-none}
+use Rattle.model.specs.Method.{maskBits, meets, sendersBelow, sendersOf, isFree, canComeFirst, strikeBelow, strikeOff}
+use Rattle.model.proofs.Tests.{tested, same-test, and-left, and-right, and-both, or-true, none-below, any-true, one-passes}
+use Rattle.model.proofs.Folds.{mapBelow-at}
+use Rattle.model.proofs.Masks.{bit-none, not-member-bit, without-none, with-in}
+use Rattle.sheet.specs.Method.{strikeBy, passBy}
+use Rattle.sheet.proofs.Served.{member-with}
+
+-- ---- lists that meet
+
+meets-none : (w K : ℕ) → meets w 0 K ≡ false
+unfolding meets
+meets-none w K = none-below w (λ j. member 0 j && member K j) (λ j l. rw bit-none)
+
+or-cases : {G : Type 0} (a b : Bool) → (a || b) ≡ true → (a ≡ true → G) → (b ≡ true → G) → G
+or-cases true b h f g = f refl
+or-cases false b h f g = g h
+
+module _ (w M x K : ℕ) (l : x < w) where
+  meets-with : meets w (with M x) K ≡ (meets w M K || member K x)
+  unfolding meets
+  meets-with = same-test _ _
+      (λ h. let i = one-passes w joined h in
+      or-cases (member M (i .0)) (eqb x (i .0)) (sym (member-with M x (i .0)) ∙ and-left (member (with M x) (i .0)) _ (i .2))
+      (λ a. rw (any-true w both (i .0) (i .1) (and-both a (and-right (member (with M x) (i .0)) _ (i .2)))))
+      (λ a. or-true (anyBelow w both) _ (rw (eqb-true x (i .0) a) (and-right (member (with M x) (i .0)) _ (i .2)))))
+      (λ h. or-cases (anyBelow w both) (member K x) h
+      (λ a. let i = one-passes w both a in
+      any-true w joined (i .0) (i .1) (and-both {a = member (with M x) (i .0)} (rw (member-with, and-left (member M (i .0)) _ (i .2))) (and-right (member M (i .0)) _ (i .2))))
+      (λ a. any-true w joined x l (and-both {a = member (with M x) x} (rw (member-with, eq-eqb x x refl) (or-true (member M x) true refl)) a)))
+    where
+      joined : ℕ → Bool
+      joined j = member (with M x) j && member K j
+
+      both : ℕ → Bool
+      both j = member M j && member K j
 
 -- ---- a free task
 
--- pair i lies outside K, or t is not its receiver
-abbrev pub notWaiting : Sheet → ℕ → ℕ → ℕ → Bool
-notWaiting S K t i = not (pairWithin S K i && eqb t (S .receiver i))
+alike : (b : Bool) (K : ℕ) → cond b K K ≡ K
+alike true K = refl
+alike false K = refl
 
-module _ (S : Sheet) (K t i : ℕ) {from to : ℕ} {a b : Bool} (f : from ≡ S .sender i) (g : to ≡ S .receiver i) (p : a ≡ member K from) (q : b ≡ member K to) where
-  -- what the code tests
-  test : notWaiting S K t i ≡ not (a && b && eqb t to)
+neither : (a b : Bool) → (not a && not (b && true && true)) ≡ not (a || b)
+neither true b = refl
+neither false true = refl
+neither false false = refl
+
+passed : (a b : Bool) → (a && not (b && false)) ≡ a
+passed true true = refl
+passed true false = refl
+passed false b = refl
+
+module _ (S : Sheet) (R : (i : ℕ) → i < S .pairs → S .sender i < maskBits) (K t : ℕ) where
+  free-below : member K t ≡ true → (n : ℕ) → n ≤ S .pairs → allBelow n (λ i. not (pairWithin S K i && eqb t (S .receiver i))) ≡ not (meets maskBits (sendersBelow S n t) K)
   unfolding pairWithin
-  test = rw (p, q, f, g)
+  free-below m zero l = rw meets-none
+  free-below m (suc n) l = ⊎-elim
+      (λ (e : eqb (S .receiver n) t ≡ true). rw (
+        e,
+        free-below m n (omega arith),
+        with-in maskBits (sendersBelow S n t) (S .sender n) (R n (omega arith)),
+        meets-with maskBits (sendersBelow S n t) (S .sender n) K (R n (omega arith)),
+        eqb-true (S .receiver n) t e,
+        m,
+        eq-eqb t t refl,
+      ) (neither (meets maskBits (sendersBelow S n t) K) (member K (S .sender n))))
+      (λ (e : eqb (S .receiver n) t ≡ false). rw (e, ne-eqb t (S .receiver n) (λ z. eqb-false _ _ e (sym z)), free-below m n (omega arith))
+      (passed (not (meets maskBits (sendersBelow S n t) K)) (member K (S .sender n) && member K (S .receiver n))))
+      (tested (eqb (S .receiver n) t))
 
-  pub waits : i < S .pairs → (a && b && eqb t to) ≡ true → isFree S K t ≡ false
-  unfolding isFree
-  waits l h = all-false (S .pairs) (notWaiting S K t) i l (test ∙ ap not h)
+  free-is : member K t ≡ true → isFree S K t ≡ not (meets maskBits (sendersOf S t) K)
+  unfolding isFree sendersOf
+  free-is m = free-below m (S .pairs) (omega arith)
 
-  pub next-pair : allBelow i (notWaiting S K t) ≡ true → (a && b && eqb t to) ≡ false → allBelow (i + 1) (notWaiting S K t) ≡ true
-  next-pair e h = all-next i (notWaiting S K t) e (test ∙ ap not h)
+  strike-is : strikeBy (sendersOf S t) K t ≡ cond (canComeFirst S K t) (without K t) K
+  unfolding strikeBy canComeFirst
+  strike-is = ⊎-elim
+      (λ (m : member K t ≡ true). rw (m, free-is m) (turned (meets maskBits (sendersOf S t) K)))
+      (λ (m : member K t ≡ false). rw (m, without-none K t (not-member-bit K t m)) (alike (meets maskBits (sendersOf S t) K) K))
+      (tested (member K t))
+    where
+      turned : (b : Bool) → cond b K (without K t) ≡ cond (not b) (without K t) K
+      turned true = refl
+      turned false = refl
 
-pub all-pairs : (S : Sheet) (K t i : ℕ) → i ≡ S .pairs → allBelow i (notWaiting S K t) ≡ true → isFree S K t ≡ true
-unfolding isFree
-all-pairs S K t i e h = rw e at h
-
--- ---- a task struck off, or not
-
-module _ (S : Sheet) (K t : ℕ) {a b : Bool} (p : a ≡ member K t) (q : b ≡ isFree S K t) where
-  first : canComeFirst S K t ≡ (a && b)
-  unfolding canComeFirst
-  first = rw (p, q)
-
-  pub strikes : {r : ℕ} → (a && b) ≡ true → r ≡ without K t → r ≡ cond (canComeFirst S K t) (without K t) K
-  strikes h e = rw (first, h) e
-
-  pub keeps : (a && b) ≡ false → K ≡ cond (canComeFirst S K t) (without K t) K
-  keeps h = rw (first, h)
-
--- ---- a pass, and the passes
+-- ---- a pass
 
 -- one task more
-pub next-task : (S : Sheet) (K t : ℕ) {left r : ℕ} → left ≡ strikeBelow S t K → r ≡ cond (canComeFirst S left t) (without left t) left → r ≡ strikeBelow S (t + 1) K
-next-task S K t h e = rw add-one (e ∙ ap (λ (L : ℕ). cond (canComeFirst S L t) (without L t) L) h)
+pub next-task : (ws : List ℕ) (K t : ℕ) {left r : ℕ} → left ≡ passBy ws t K → r ≡ strikeBy (getD ws t 0) left t → r ≡ passBy ws (t + 1) K
+next-task ws K t h e = rw (add-one, ← h) e
+
+-- an empty list stays empty
+strikes-none : (W t : ℕ) → strikeBy W 0 t ≡ 0
+unfolding strikeBy
+strikes-none W t = rw (without-none 0 t (bit-none t)) (alike (meets maskBits W 0) 0)
+
+pub empty-passed : (ws : List ℕ) (K m n : ℕ) → m ≤ n → passBy ws m K ≡ 0 → passBy ws n K ≡ 0
+empty-passed ws K m n l h = le-ind (λ (k : ℕ). passBy ws k K ≡ 0) h (λ k a e. rw e (strikes-none (getD ws k 0) k)) n l
+
+pub pass-is : (S : Sheet) → ((i : ℕ) → i < S .pairs → S .sender i < maskBits) → (K n : ℕ) → n ≤ maxTasks → passBy (mapBelow maxTasks (sendersOf S)) n K ≡ strikeBelow S n K
+pass-is S R K zero l = refl
+pass-is S R K (suc n) l =
+    rw (pass-is S R K n (omega arith), mapBelow-at maxTasks (sendersOf S) n 0 (omega arith)) (strike-is S R (strikeBelow S n K) n)
+
+-- ---- the passes
 
 -- one pass more
 pub next-pass : (S : Sheet) (K n : ℕ) {left r : ℕ} → left ≡ strikeOff S n K → r ≡ strikeBelow S (S .tasks) left → r ≡ strikeOff S (n + 1) K

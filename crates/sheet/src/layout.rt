@@ -3,10 +3,10 @@ ghost use mathlib.Core.Path.{_≡_};
 ghost use Prim.Native.Nat.{_<_};
 ghost use Rattle.model.specs.SheetLayout.{distancesBody, bodies, entryBytes, bodyAt, layoutOf};
 ghost use Rattle.model.specs.Faults.{tooShort, wrongKind, wrongEntries, someWrongEntries, wrongLine, wrongPlaces};
-use field::BODIES;
-use field::DISTANCES_BODY;
-use field::POINTS_BODY;
-use field::entries;
+use head::BODIES;
+use head::DISTANCES_BODY;
+use head::POINTS_BODY;
+use head::entries;
 
 const KIND: u16 = 1;
 
@@ -17,25 +17,25 @@ const MOST: [u16; 6] = [12, 64, 16, 32, 32, 64];
 
 // The bytes of an entry of each body.
 const SIZES: [u32; 7] = [
-    field::TASK_BYTES,
-    field::DOOR_BYTES,
-    field::START_BYTES,
-    field::PAIR_BYTES,
-    field::RULE_BYTES,
-    field::POINT_BYTES,
-    field::DISTANCE_BYTES,
+    view::TASK_BYTES,
+    view::DOOR_BYTES,
+    view::START_BYTES,
+    view::PAIR_BYTES,
+    view::RULE_BYTES,
+    view::POINT_BYTES,
+    view::DISTANCE_BYTES,
 ];
 
 pub(crate) fn too_short(s: &[u8]) -> bool
     ensures { λ r. ⌜ r ≡ tooShort (now (s .entry)) ⌝ }
 {
-    s.len() < field::HEAD_BYTES as usize
+    s.len() < view::HEAD_BYTES as usize
 }
 
 pub(crate) fn wrong_kind(s: &[u8]) -> bool
     ensures { λ r. ⌜ r ≡ wrongKind (layoutOf (now (s .entry))) (now (s .entry)) ⌝ }
 {
-    field::kind(s) != KIND
+    head::kind(s) != KIND
 }
 
 // Whether the number of entries of body i, one before the distances, is outside its limits.
@@ -76,14 +76,14 @@ fn wrong_line(s: &[u8], i: u16, at: usize) -> bool
     requires { ⌜ (i < bodies) × (at ≡ bodyAt (layoutOf (now s)) (now s) i) ⌝ }
     ensures { λ r. ⌜ r ≡ wrongLine (layoutOf (now (s .entry))) (now (s .entry)) i ⌝ }
 {
-    (field::line_body(s, i) != i + 1) | (field::line_offset(s, i) as usize != at)
+    (head::line_body(s, i) != i + 1) | (head::line_offset(s, i) as usize != at)
 }
 
 // The place of each body is summed up from the numbers of entries.
 pub(crate) fn wrong_places(s: &[u8]) -> bool
     ensures { λ r. ⌜ r ≡ wrongPlaces (layoutOf (now (s .entry))) (now (s .entry)) ⌝ }
 {
-    let mut at = field::HEAD_BYTES as usize;
+    let mut at = view::HEAD_BYTES as usize;
     let mut i: u16 = 0;
     while i < BODIES {
         if wrong_line(s, i, at) {

@@ -1,8 +1,11 @@
-// Reading a task sheet, which answers with the numbers of tasks and points or with a fault.
+// Reading a task sheet, which answers with the view of a sheet that reads or with a fault.
 ghost use mathlib.Core.Path.{_≡_};
 ghost use Rattle.model.specs.Faults.{readSheet};
-ghost use Rattle.sheet.specs.Answers.{answerOf};
+ghost use Rattle.view.specs.Views.{viewOf};
+ghost use Rattle.sheet.specs.Layouts.{LaidOut};
+ghost use Rattle.sheet.specs.Answers.{answerOf, viewIn};
 use refusal::Refusal;
+use view::View;
 
 mod door;
 mod layout;
@@ -10,21 +13,16 @@ mod light;
 mod order;
 mod range;
 
-// The numbers of tasks and points of a sheet that reads.
-pub struct Counts {
-    pub tasks: u16,
-    pub points: u16,
-}
-
-// What reading answers: the counts, or one of 10 to 17.
+// What reading answers: the view of the sheet, or one of 10 to 17.
 pub enum Reading {
-    Read(Counts),
+    Read(View),
     Refused(Refusal),
 }
 
 // Reads a sheet. The first fault that applies is the answer.
 pub fn read(s: &[u8]) -> Reading
-    ensures { λ r. ⌜ answerOf r ≡ readSheet (now (s .entry)) ⌝ }
+    ensures answer { λ r. ⌜ answerOf r ≡ readSheet (now (s .entry)) ⌝ }
+    ensures view { λ r. ⌜ viewIn r (viewOf (now (s .entry))) ≡ viewOf (now (s .entry)) ⌝ }
 {
     if layout::too_short(s) {
         return Reading::Refused(Refusal::TooShort);
@@ -38,24 +36,28 @@ pub fn read(s: &[u8]) -> Reading
     if layout::wrong_places(s) {
         return Reading::Refused(Refusal::WrongPlaces);
     }
-    if range::out_of_range(s) {
+    read_bodies(s, View::of(s))
+}
+
+// The same for a sheet that 10 to 13 do not refuse, over its view.
+fn read_bodies(s: &[u8], v: View) -> Reading
+    requires { ⌜ LaidOut (now s) × (v ≡ viewOf (now s)) ⌝ }
+    ensures answer { λ r. ⌜ answerOf r ≡ readSheet (now (s .entry)) ⌝ }
+    ensures view { λ r. ⌜ viewIn r (viewOf (now (s .entry))) ≡ viewOf (now (s .entry)) ⌝ }
+{
+    if range::out_of_range(s, v) {
         return Reading::Refused(Refusal::OutOfRange);
     }
-    let lacking = door::some_lacks_door(s);
-    let light = light::too_light(s);
+    let lacking = door::some_lacks_door(s, v);
+    let light = light::too_light(s, v);
     if lacking {
         return Reading::Refused(Refusal::NoDoor);
     }
     if light {
         return Reading::Refused(Refusal::TooLight);
     }
-    if order::something_left(s) {
+    if order::something_left(s, v) {
         return Reading::Refused(Refusal::NoOrder);
     }
-    let tasks = field::tasks(s);
-    let points = field::points(s);
-    Reading::Read(Counts {
-        tasks: tasks,
-        points: points,
-    })
+    Reading::Read(v)
 }

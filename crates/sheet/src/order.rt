@@ -1,62 +1,74 @@
 // Fault 17, decided by striking off: again and again, each task that can come first in what is left.
 ghost use mathlib.Core.Path.{_≡_};
-ghost use Rattle.model.specs.Method.{isFree, strike, strikeBelow, somethingLeft};
-ghost use Rattle.model.specs.SheetLayout.{decode};
+ghost use Prim.Native.Nat.{ℕ, _≤_, _<_};
+ghost use lib.ListN.{length};
+ghost use Rattle.model.specs.Folds.{mapBelow};
+ghost use Rattle.model.specs.SheetLayout.{maxTasks, decode};
+ghost use Rattle.model.specs.Method.{maxListed, sendersOf, somethingLeft};
+ghost use Rattle.model.specs.Passing.{InRange};
+ghost use Rattle.view.specs.Views.{Viewed};
+ghost use Rattle.sheet.specs.Method.{strikeBy, passBy};
+use view::MAX_TASKS;
+use view::View;
 
-// Whether task t is receiver in no pair within list k.
-fn is_free(s: &[u8], k: u32, t: u16) -> bool
-    ensures { λ r. ⌜ r ≡ isFree (decode (now (s .entry))) k t ⌝ }
+// What each task waits for: the senders in the pairs whose receiver it is.
+fn senders(s: &[u8], v: View) -> [u32; MAX_TASKS]
+    requires { ⌜ Viewed (now s) v × ((i : ℕ) → i < decode (now s) .pairs → decode (now s) .receiver i < maxTasks) ⌝ }
+    ensures { λ r. ⌜ r ≡ mapBelow maxTasks (sendersOf (decode (now (s .entry)))) ⌝ }
 {
-    let pairs = field::pairs(s);
+    let pairs = v.pairs;
+    let mut senders = [0u32; MAX_TASKS];
     let mut i: u16 = 0;
     while i < pairs {
-        let from = field::sender(s, i);
-        let to = field::receiver(s, i);
-        if tasklist::contains(k, from) & tasklist::contains(k, to) & (t == to) {
-            return false;
-        }
+        let to = view::receiver(s, v, i) as usize;
+        senders[to] = tasklist::with(senders[to], view::sender(s, v, i));
         i = i + 1;
     }
-    true
+    senders
 }
 
-// List k, with task t struck off if it can come first in k.
-fn strike(s: &[u8], k: u32, t: u16) -> u32
-    ensures { λ r. ⌜ r ≡ strike (decode (now (s .entry))) k t ⌝ }
+// List k, with task t struck off if none of those it waits for is in k.
+fn strike(senders: u32, k: u32, t: u16) -> u32
+    ensures { λ r. ⌜ r ≡ strikeBy senders k t ⌝ }
 {
-    if tasklist::contains(k, t) & is_free(s, k, t) {
-        tasklist::without(k, t)
-    } else {
+    if tasklist::meets(senders, k) {
         k
+    } else {
+        tasklist::without(k, t)
     }
 }
 
-// What one pass over the tasks leaves of list k.
-fn strike_pass(s: &[u8], k: u32) -> u32
-    ensures { λ r. ⌜ r ≡ strikeBelow (decode (now (s .entry))) (decode (now (s .entry)) .tasks) k ⌝ }
+// What one pass over n tasks leaves of list k. An empty list stays empty.
+fn strike_pass(senders: &[u32], n: u16, k: u32) -> u32
+    requires { ⌜ n ≤ length (now senders) ⌝ }
+    ensures { λ r. ⌜ r ≡ passBy (now (senders .entry)) n k ⌝ }
 {
-    let tasks = field::tasks(s);
     let mut left = k;
     let mut t: u16 = 0;
-    while t < tasks {
-        left = strike(s, left, t);
+    while t < n {
+        left = strike(senders[t as usize], left, t);
+        if left == 0 {
+            return 0;
+        }
         t = t + 1;
     }
     left
 }
 
-// Whether as many passes as there are tasks leave something of the full list. An empty list stays empty.
-pub(crate) fn something_left(s: &[u8]) -> bool
+// Whether as many passes as there are tasks leave something of the full list.
+pub(crate) fn something_left(s: &[u8], v: View) -> bool
+    requires { ⌜ Viewed (now s) v × (decode (now s) .tasks ≤ maxListed) × InRange (decode (now s)) ⌝ }
     ensures { λ r. ⌜ r ≡ somethingLeft (decode (now (s .entry))) ⌝ }
 {
-    let tasks = field::tasks(s);
+    let tasks = v.tasks;
+    let senders = senders(s, v);
     let mut left = tasklist::full(tasks);
     let mut pass: u16 = 0;
     while pass < tasks {
         if left == 0 {
             return false;
         }
-        left = strike_pass(s, left);
+        left = strike_pass(&senders, tasks, left);
         pass = pass + 1;
     }
     left != 0

@@ -2,18 +2,16 @@
 use mathlib.Core.Path.{_≡_}
 use mathlib.Core.Bool.{true, cond, _&&_}
 use mathlib.Core.List.{List}
-use Prim.Native.Nat.{ℕ, _+_, _*_, _/_, _%_, _^_, _<_}
-use lib.Dec.{T, ltb}
+use Prim.Native.Nat.{ℕ, _+_, _*_, _/_, _%_, _<_}
+use lib.Dec.{ltb}
 use lib.ListN.{length, getD}
-use lib.Signed.{nonNeg}
 use Rattle.model.specs.Folds.{mapBelow}
 use Rattle.model.specs.TaskList.{without}
 use Rattle.model.specs.Sheet.{Sheet}
-use Rattle.model.specs.Orders.{essential, pairsAllow}
-use Rattle.model.specs.Cost.{load}
+use Rattle.model.specs.Orders.{pairsAllow}
 use Rattle.model.specs.Plans.{costToGo}
 use Rattle.model.specs.SheetLayout.{maxTasks, decode}
-use Rattle.model.specs.Passing.{CountsWithin, Plannable}
+use Rattle.model.specs.Passing.{CountsWithin, Plannable, LoadsHold}
 use Rattle.view.specs.declared.View.{View}
 use Rattle.view.specs.Views.{Viewed}
 
@@ -39,4 +37,4 @@ pub record Fillable (b : List ℕ) (v : View) : Type 0 where
   pub view : Viewed b v
   pub counts : CountsWithin (decode b)
   pub plannable : Plannable (decode b)
-  pub loads : (K : ℕ) → K < 2 ^ decode b .tasks → essential (decode b) K ≡ true → T (nonNeg (load (decode b) K))
+  pub loads : LoadsHold (decode b)

@@ -11,11 +11,9 @@ ghost use Rattle.model.specs.Plans.{costToGo};
 ghost use Rattle.model.specs.Planning.{cellsNeeded, cellsAfter};
 ghost use Rattle.view.specs.Views.{Viewed};
 ghost use Rattle.table.specs.Cells.{restRows, Shown, Fillable};
-use gather::MAX_DOORS;
+use view::MAX_DOORS;
+use view::MAX_TASKS;
 use view::View;
-
-// The most tasks of a sheet.
-pub const MAX_TASKS: usize = 12;
 
 // Where the row of list k without each task begins.
 pub fn rest_rows(points: u16, k: u32) -> [usize; MAX_TASKS]
@@ -69,7 +67,7 @@ fn list_row(s: &[u8], v: View, k: u32, cells: &mut [u64])
     requires { ⌜ Fillable (now s) v × (k < 2 ^ decode (now s) .tasks) × (essential (decode (now s)) k ≡ true) × Shown (decode (now s)) k (now cells) × ((k + 1) * decode (now s) .points ≤ length (now cells)) ⌝ }
     ensures { λ _. ⌜ now (cells .exit) ≡ overwriteAt (k * decode (now (s .entry)) .points) (mapBelow (decode (now (s .entry)) .points) (costToGo (decode (now (s .entry))) k)) (now (cells .entry)) ⌝ }
 {
-    let load = cost::load(s, k);
+    let load = cost::load(s, v, k);
     let rows = rest_rows(v.points, k);
     let mut doors = [0u16; MAX_DOORS];
     let mut arrivals = [0u16; MAX_DOORS];

@@ -1,8 +1,8 @@
 -- The machine's shifts, masks and count of ones, on words of w bits, are the operations on lists: both sides have the same members.
 -- Assumes nothing.
-use mathlib.Core.Path.{_≡_, sym, _∙_}
+use mathlib.Core.Path.{_≡_, sym, ap, _∙_}
 use mathlib.Core.Logic.{_≢_, ⊎-elim}
-use mathlib.Core.Bool.{true, false}
+use mathlib.Core.Bool.{Bool, true, false, not, _&&_}
 use Prim.Native.Nat.{ℕ, zero, suc, _+_, _-_, _*_, _/_, _%_, _^_, _≤_, _<_, min, max}
 use native.Mathlib.Nat.{lt-of-le-of-lt, mul-le-mul-right}
 use native.Mathlib.Omega.{arith}
@@ -11,13 +11,13 @@ use lib.Dec.{eqb, ltb}
 use lib.Pow.{pow-lt, shl-exact}
 use lib.Bits.{bitAnd, bitOr, and-mask, and-step, or-step, and-shr, or-shr, and-le-l, or-lt}
 use lib.Count.{ones, ones-step}
-use borrow.Author.Tests.{eqb-true, eqb-false, lt-ltb, le-ltb}
-use Rattle.model.specs.Folds.{sumBelow, countBelow}
+use borrow.Author.Tests.{eqb-true, eqb-false, ne-eqb, lt-ltb, le-ltb, not-true}
+use Rattle.model.specs.Folds.{anyBelow, sumBelow, countBelow}
 use Rattle.model.specs.TaskList.{bit, member, with, without, full, watchedIn}
-use Rattle.model.specs.Method.{withIn}
-use Rattle.model.proofs.Tests.{tested}
+use Rattle.model.specs.Method.{withIn, meets}
+use Rattle.model.proofs.Tests.{tested, same-test, and-left, and-right, none-at, one-passes}
 use Rattle.model.proofs.Folds.{sum-cong, sum-first}
-use Rattle.model.proofs.Masks.{bit-zero, bit-suc, bit-lt, bit-none, bit-cases, counted, bit-above, full-bit, without-is, without-none, without-same, without-other, without-le, with-is, with-same, with-other, same-members}
+use Rattle.model.proofs.Masks.{bit-zero, bit-suc, bit-lt, bit-none, bit-cases, member-bit, not-member-bit, counted, bit-above, full-bit, without-is, without-none, without-same, without-other, without-le, with-is, with-same, with-other, same-members, no-bits}
 
 -- ---- single bits
 
@@ -85,6 +85,30 @@ struck w K j l h = rw all-but (agree w j (bitAnd K (without (full w) j)) (withou
 -- a task from w on is not in the list
 pub not-struck : (w K j : ℕ) → K < 2 ^ w → w ≤ j → K ≡ without K j
 not-struck w K j l h = sym (without-none K j (bit-above w j K l h))
+
+-- ---- tasks in both lists
+
+-- L & K is not zero
+pub met : (w L K : ℕ) → L < 2 ^ w → not (eqb (bitAnd L K) 0) ≡ meets w L K
+unfolding meets
+met w L K h = same-test _ _
+    (λ e. ⊎-elim
+    (λ (m : anyBelow w both ≡ true). m)
+    (λ (m : anyBelow w both ≡ false). absurd (eqb-false _ 0 (not-true _ e) (no-bits w _ (lt-of-le-of-lt (and-le-l L K) h) (λ j l. none j (none-at w both m j l)))))
+    (tested (anyBelow w both)))
+    (λ m. let i = one-passes w both m in ap not (ne-eqb _ 0 (λ (z : bitAnd L K ≡ 0). omega (arith, one (i .0) (i .2), ap (λ (x : ℕ). bit x (i .0)) z, bit-none (i .0)))))
+  where
+    both : ℕ → Bool
+    both j = member L j && member K j
+
+    none : (j : ℕ) → both j ≡ false → bit (bitAnd L K) j ≡ 0
+    none j e = ⊎-elim
+        (λ (w : bit L j ≡ 0). omega (arith, bit-and L K j))
+        (λ (w : bit L j ≡ 1). omega (arith, bit-and L K j, not-member-bit K j (rw w at e)))
+        (bit-cases L j)
+
+    one : (j : ℕ) → both j ≡ true → bit (bitAnd L K) j ≡ 1
+    one j e = omega (arith, bit-and L K j, member-bit L j (and-left (member L j) (member K j) e), member-bit K j (and-right (member L j) (member K j) e))
 
 -- ---- counts
 

@@ -1,7 +1,7 @@
 // Lists of tasks as masks of 32 bits: bit j stands for task j. Every function takes any number of its type.
 ghost use mathlib.Core.Path.{_≡_};
 ghost use Rattle.model.specs.TaskList.{member, without, watchedIn};
-ghost use Rattle.model.specs.Method.{withIn, maskBits, listsOf, fullOf};
+ghost use Rattle.model.specs.Method.{withIn, meets, maskBits, listsOf, fullOf};
 
 const MASK_BITS: u16 = 32;
 
@@ -24,6 +24,13 @@ pub fn without(k: u32, j: u16) -> u32
     ensures { λ r. ⌜ r ≡ without k j ⌝ }
 {
     if j < MASK_BITS { k & !(1u32 << j) } else { k }
+}
+
+// Whether some task is in both lists.
+pub fn meets(j: u32, k: u32) -> bool
+    ensures { λ r. ⌜ r ≡ meets maskBits j k ⌝ }
+{
+    j & k != 0
 }
 
 // How many of the watched tasks are in list k.

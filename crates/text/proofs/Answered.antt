@@ -1,5 +1,5 @@
 -- What planning left in a buffer with room for any plan is printed: a refusal as its line, and a plan as it stands in the bytes. Assumes nothing.
-use mathlib.Core.Path.{_≡_, sym, ap, _∙_}
+use mathlib.Core.Path.{_≡_, refl, sym, ap, _∙_}
 use mathlib.Core.Bool.{true}
 use mathlib.Core.Option.{some}
 use mathlib.Core.List.{List, [], _∷_, _++_}
@@ -25,6 +25,7 @@ use Rattle.model.proofs.PlanBytes.{length-plan, start-again, doors-again, cost-
 use Rattle.model.proofs.Planning.{plannable}
 use Rattle.model.proofs.Starts.{solution-completes}
 use Rattle.model.proofs.Printing.{prints-refusal, prints-plan}
+use Rattle.sheet.proofs.Laid.{viewed, reads-laid}
 use Rattle.text.specs.Lines.{labelled, lineOf}
 use Rattle.text.specs.Steps.{planIn, Printable}
 
@@ -72,6 +73,7 @@ module _ {b : List ℕ} (bytes : areBytes b ≡ true) {x : Plan} {c : ℕ} (read
   unfolding overwrite
   can-print = record {
     steps = rw held-is (record {
+      view = viewed (reads-laid reads) refl;
       ranges = plannable b reads .ranges;
       few = counts-read b reads .tasks;
       few-doors = rw (solution-length (decode b) _ _ solves) (counts-read b reads .tasks);

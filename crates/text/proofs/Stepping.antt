@@ -9,18 +9,31 @@ use lib.ListN.{length, getD, drop, drop-of-length-le, length-append}
 use lib.Pow.{pow-mono}
 use Rattle.model.specs.TaskList.{without, full}
 use Rattle.model.specs.Method.{fullOf, canComeFirst}
-use Rattle.model.specs.Plans.{isCompletion}
+use Rattle.model.specs.Plans.{inSheet, isCompletion}
 use Rattle.model.specs.SheetLayout.{decode}
 use Rattle.model.specs.PlanLayout.{maxPlanDoors}
 use Rattle.model.specs.Printing.{stepLine, stepLines}
-use Rattle.model.proofs.Tests.{and-right}
+use Rattle.model.proofs.Tests.{and-left, and-right}
+use Rattle.model.proofs.Solutions as Solutions
 use Rattle.model.proofs.Walks.{from}
 use Rattle.model.proofs.Masks.{full-lt, without-le, full-of}
 use Rattle.model.proofs.Overwriting.{over-none}
 use Rattle.model.proofs.Completions.{completes-is, open-is}
+use Rattle.view.specs.declared.View.{View}
+use Rattle.view.specs.Views.{viewOf}
 use Rattle.text.specs.Lines.{maxStep, Laid}
 use Rattle.text.specs.Steps.{Steps}
 use Rattle.text.proofs.Laying.{laid-room, laid-on, long-step}
+
+-- the view's number of tasks is the sheet's
+pub count : (b : List ℕ) {v : View} → v ≡ viewOf b → v .tasks ≡ decode b .tasks
+unfolding viewOf
+count b e = ap (λ (x : View). x .tasks) e
+
+-- each door is one of the sheet's
+pub door-in : {b ds : List ℕ} → Steps b ds → (i : ℕ) → i < length ds → getD ds i 0 < decode b .doors
+unfolding isCompletion
+door-in {b} {ds} S i l = Solutions.door-in (decode b) ds (and-left (inSheet (decode b) ds) _ (S .completion)) i l
 
 -- after i steps: the lines laid, and what is left
 pub record Stepped (b ds a out : List ℕ) (at end left i : ℕ) : Type 0 where

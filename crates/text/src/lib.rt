@@ -5,11 +5,13 @@ ghost use lib.ListN.{length};
 ghost use Rattle.model.specs.SheetLayout.{decode};
 ghost use Rattle.model.specs.PlanLayout.{maxPlanDoors};
 ghost use Rattle.model.specs.Printing.{stepLine, stepLines, planLines, printedWith, print};
+ghost use Rattle.view.specs.Views.{viewOf};
 ghost use Rattle.text.specs.Lines.{labelled, lineOf, maxDigits, maxStep, maxText, Laid};
 ghost use Rattle.text.specs.Steps.{Steps, planIn, Printable};
 use decimal::put_number;
 use decimal::put_text;
 use planner::Planning;
+use view::View;
 
 // Room for the bytes of any plan.
 const PLAN_BYTES: usize = 56;
@@ -46,17 +48,17 @@ fn step_line(out: &mut [u8], at: usize, door: u16, task: u16, left: u32) -> usiz
 }
 
 // Lays a line for each of the doors into the buffer from byte `at` on. They complete the full list, which loses a task with each step.
-fn step_lines(s: &[u8], doors: &[u16], out: &mut [u8], at: usize) -> usize
-    requires { ⌜ Steps (now s) (now doors) × (at + maxStep * maxPlanDoors ≤ length (now out)) ⌝ }
+fn step_lines(s: &[u8], v: View, doors: &[u16], out: &mut [u8], at: usize) -> usize
+    requires { ⌜ Steps (now s) (now doors) × (v ≡ viewOf (now s)) × (at + maxStep * maxPlanDoors ≤ length (now out)) ⌝ }
     ensures { λ r. ⌜ Laid at (stepLines (decode (now (s .entry))) (now (doors .entry))) (now (out .entry)) (now (out .exit)) r ⌝ }
 {
     let n = doors.len();
-    let mut left = tasklist::full(field::tasks(s));
+    let mut left = tasklist::full(v.tasks);
     let mut end = at;
     let mut i: usize = 0;
     while i < n {
         let d = doors[i];
-        let t = field::task(s, d);
+        let t = view::task(s, v, d);
         let after = tasklist::without(left, t);
         end = step_line(out, end, d, t, left);
         left = after;
@@ -70,13 +72,14 @@ fn plan_lines(s: &[u8], q: &[u8], out: &mut [u8]) -> usize
     requires { ⌜ Printable (now s) (now q) × (maxText ≤ length (now out)) ⌝ }
     ensures { λ r. ⌜ Laid 0 (planLines (decode (now (s .entry))) (planIn (now (s .entry)) (now (q .entry)))) (now (out .entry)) (now (out .exit)) r ⌝ }
 {
-    let n = field::tasks(s);
+    let v = View::of(s);
+    let n = v.tasks;
     let x = plan::in_hand(n, q);
     let behind_cost = line(out, 0, b"cost ", x.cost);
     let behind_start = line(out, behind_cost, b"start ", plan::start_in(q) as u64);
     let doors = x.doors;
     let count = n as usize;
-    step_lines(s, &doors[..count], out, behind_start)
+    step_lines(s, v, &doors[..count], out, behind_start)
 }
 
 // Lays all that is printed for a sheet into the buffer, which has room for any of it: the lines of its plan or of the refusal.

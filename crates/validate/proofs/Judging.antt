@@ -1,121 +1,131 @@
--- The judge on a sheet that reads: what it has in hand, and its answer at each test. Assumes nothing.
+-- The judge on a sheet that reads: the plan that it reads, and its answer at each test. Assumes nothing.
 use mathlib.Core.Path.{_≡_, refl, sym, ap, _∙_}
-use mathlib.Core.Bool.{true, false}
-use mathlib.Core.List.{List, map}
-use Prim.Native.Nat.{ℕ, _≤_}
-use lib.Dec.{leb}
-use lib.ListN.{take}
-use borrow.Author.Tests.{eq-eqb, ne-eqb, not-false}
+use mathlib.Core.Logic.{⊎-elim}
+use mathlib.Core.Bool.{true, false, cond, not}
+use mathlib.Core.List.{List, [], _∷_, map}
+use Prim.Native.Nat.{ℕ, _≤_, _<_}
+use native.Mathlib.Omega.{arith}
+use lib.Dec.{ltb, leb}
+use lib.ListN.{length, getD, take}
+use borrow.Author.Tests.{eq-eqb, ne-eqb, ltb-true, lt-ltb, leb-false, not-false}
+use Rattle.model.specs.Folds.{mapBelow, allIn}
 use Rattle.model.specs.Cost.{cost}
-use Rattle.model.specs.Plans.{roundCost}
-use Rattle.model.specs.Answer.{refused, accepted, refuseIf, status}
+use Rattle.model.specs.Plans.{inSheet, isSolution, roundCost}
+use Rattle.model.specs.Answer.{Answer, refused, accepted, refuseIf, refuseFirst}
 use Rattle.model.specs.SheetLayout.{maxTasks, layoutOf, decode}
-use Rattle.model.specs.Faults.{Counts, readSheet}
-use Rattle.model.specs.PlanLayout.{illFormed, startIn, doorsIn, costIn}
-use Rattle.model.specs.PlanInHand.{PlanInHand, inHand}
+use Rattle.model.specs.Faults.{readSheet}
+use Rattle.model.specs.Passing.{InRange}
+use Rattle.model.specs.PlanLayout.{maxPlanDoors, illFormed, startIn, doorIn, doorsIn, costIn, doorArray}
 use Rattle.model.specs.Validating.{notInSheet, doneTwice, breaksPair, wrongCost, routeTests, planTests, validate}
-use Rattle.model.proofs.Tests.{or-right}
+use Rattle.model.proofs.Tests.{tested, or-left, or-right}
+use Rattle.model.proofs.Folds.{flat-cong, mapBelow-at}
+use Rattle.model.proofs.Lists.{all-imply, all-in, in-all}
 use Rattle.model.proofs.Ranges.{in-range}
-use Rattle.model.proofs.Reading.{Reads, reads-then, counts-read, accepted-reads, refused-alike}
-use Rattle.model.proofs.Refusing.{accepted-value}
-use Rattle.model.proofs.Loads.{light}
-use Rattle.model.proofs.PlanBytes.{length-doors}
-use Rattle.model.proofs.InHand.{in-hand-count, in-hand-cost, in-hand-doors}
-use Rattle.model.proofs.Walks.{take-map}
-use Rattle.cost.specs.Routes.{Costable}
-use Rattle.cost.proofs.Routes.{costable}
-
--- ---- the sheet
-
--- the reader's numbers are the sheet's
-pub read-counts : (b : List ℕ) {n p : ℕ} → accepted (record { tasks = n; points = p }) ≡ readSheet b → (status (readSheet b) ≡ 0) × (n ≡ decode b .tasks)
-unfolding readSheet
-read-counts b e = (ap status (sym e), ap (λ (x : Counts). x .tasks) (accepted-value (sym (accepted-reads b _ _ (sym e) .1))))
+use Rattle.model.proofs.Reading.{Reads, reads-then, counts-read, refused-alike}
+use Rattle.model.proofs.PlanBytes.{length-array, array-front, length-doors}
+use Rattle.model.proofs.Validating.{tasks-below, judged-solution}
 
 -- what the reader refuses the judge refuses
 pub sheet-refused : (b q : List ℕ) {r : ℕ} → refused r ≡ readSheet b → refused r ≡ validate b q
 unfolding readSheet validate planTests
 sheet-refused b q {r} e = sym (refused-alike b _ _ _ r refl (sym e))
 
-pub few-tasks : (b : List ℕ) → Reads b → decode b .tasks ≤ maxTasks
-few-tasks b h = counts-read b h .tasks
+-- ---- the plan's bytes
 
--- the code's n is the number of tasks
-pub ill-formed : (b q : List ℕ) {n : ℕ} → Reads b → n ≡ decode b .tasks → illFormed n q ≡ true → refused 30 ≡ validate b q
-unfolding validate planTests
-ill-formed b q h e i = sym (reads-then b _ h ∙ rw (← e, i))
+module _ (b q : List ℕ) (h : Reads b) {n : ℕ} (e : n ≡ decode b .tasks) where
+  pub few : n ≤ maxPlanDoors
+  few = rw e (counts-read b h .tasks)
 
--- ---- the plan in hand
+  judged : validate b q ≡ refuseIf (illFormed n q) 30 (refuseFirst (routeTests (decode b) (startIn q) (doorsIn n q) (costIn n q)) (accepted (costIn n q)))
+  unfolding validate planTests
+  judged = reads-then b _ h ∙ rw (← e)
 
--- the plan is well formed, and the code has its start, its doors and its cost in hand, and the task of each place for a door
-pub record Held (b q : List ℕ) (start : ℕ) (x : PlanInHand) (tasks : List ℕ) : Type 0 where
-  pub sheet : Reads b
-  pub formed : illFormed (decode b .tasks) q ≡ false
-  pub start-is : start ≡ startIn q
-  pub count-is : x .count ≡ decode b .tasks
-  pub cost-is : x .cost ≡ costIn (decode b .tasks) q
-  pub doors-are : take (x .count) (x .doors) ≡ doorsIn (decode b .tasks) q
-  pub tasks-are : tasks ≡ map (decode b .task) (x .doors)
+  pub ill-formed : illFormed n q ≡ true → refused 30 ≡ validate b q
+  ill-formed w = sym (rw w at judged)
 
-pub hold : (b q : List ℕ) {n start : ℕ} {x : PlanInHand} {tasks : List ℕ} → Reads b → n ≡ decode b .tasks → illFormed n q ≡ false → start ≡ startIn q → x ≡ inHand n q
-    → tasks ≡ map (decode b .task) (x .doors) → Held b q start x tasks
-hold b q {x = x} r e f s i t =
-    let few = few-tasks b r in
-    let count : x .count ≡ decode b .tasks = rw (i, e) (in-hand-count (decode b .tasks) q few) in
-    record {
-      sheet = r;
-      formed = rw e at f;
-      start-is = s;
-      count-is = count;
-      cost-is = rw (i, e) (in-hand-cost (decode b .tasks) q few);
-      doors-are = rw count (rw (i, e) (in-hand-doors (decode b .tasks) q few));
-      tasks-are = t;
-    }
+  -- the doors that the bytes hold, at the front of an array
+  doors-front : take n (doorArray maxPlanDoors n (doorIn q)) ≡ doorsIn n q
+  unfolding doorArray doorsIn mapBelow
+  doors-front = ap (take n) (flat-cong maxPlanDoors _ _ (λ i l. ap (λ (x : ℕ). x ∷ []) (same i))) ∙ array-front maxPlanDoors n (doorsIn n q) few (length-doors n q)
+    where
+      same : (i : ℕ) → cond (ltb i n) (doorIn q i) 0 ≡ cond (ltb i n) (getD (doorsIn n q) i 0) 0
+      same i = ⊎-elim
+          (λ (w : ltb i n ≡ true). rw w (sym (mapBelow-at n (doorIn q) i 0 (ltb-true i n w))))
+          (λ (w : ltb i n ≡ false). rw w)
+          (tested (ltb i n))
 
-module _ {b q : List ℕ} {start : ℕ} {x : PlanInHand} {tasks : List ℕ} (h : Held b q start x tasks) where
-  tasks-done : take (x .count) tasks ≡ map (decode b .task) (take (x .count) (x .doors))
-  tasks-done = rw (h .tasks-are) (take-map (decode b .task) (x .count) (x .doors))
+  module _ {ds : List ℕ} (hd : ds ≡ doorArray maxPlanDoors n (doorIn q)) where
+    doors-are : take n ds ≡ doorsIn n q
+    doors-are = rw hd doors-front
 
-  -- the answer by what the code has
-  judged : validate b q
-      ≡ refuseIf (notInSheet (decode b) start (take (x .count) (x .doors))) 31
-      (refuseIf (doneTwice (decode b) (take (x .count) tasks)) 32
-      (refuseIf (breaksPair (decode b) (take (x .count) tasks)) 33
-      (refuseIf (wrongCost (decode b) start (take (x .count) (x .doors)) (x .cost)) 34
-      (accepted (x .cost)))))
-  unfolding validate planTests routeTests
-  judged = reads-then b _ (h .sheet) ∙ rw (h .formed, tasks-done, h .doors-are, h .start-is, h .cost-is)
+    pub in-array : n ≤ length ds
+    in-array = rw (hd, length-array) few
 
-  pub not-in-sheet : notInSheet (decode b) start (take (x .count) (x .doors)) ≡ true → refused 31 ≡ validate b q
-  not-in-sheet e = sym (judged ∙ rw e)
+    pub as-many-doors : length (take n ds) ≡ decode b .tasks
+    as-many-doors = ap length doors-are ∙ length-doors n q ∙ e
 
-  module _ (p₁ : notInSheet (decode b) start (take (x .count) (x .doors)) ≡ false) where
-    pub done-twice : doneTwice (decode b) (take (x .count) tasks) ≡ true → refused 32 ≡ validate b q
-    done-twice e = sym (judged ∙ rw (p₁, e))
+    -- where the bytes are well formed, the judge goes by the start, the doors and the cost that they hold
+    pub route-judged : illFormed n q ≡ false → {start c : ℕ} {a : Answer ℕ} → start ≡ startIn q → c ≡ costIn n q
+        → a ≡ refuseFirst (routeTests (decode b) start (take n ds) c) (accepted c) → a ≡ validate b q
+    route-judged formed hs hc ha = ha ∙ rw (hs, hc, doors-are) (sym (rw formed at judged))
 
-    -- what costing asks
-    pub can-cost : Costable (decode b) (take (x .count) (x .doors))
+-- ---- start, doors and cost
+
+module _ (b : List ℕ) (h : Reads b) (start : ℕ) (ds : List ℕ) (c : ℕ) (size : length ds ≡ decode b .tasks) where
+  abbrev answered : Answer ℕ
+  answered = refuseFirst (routeTests (decode b) start ds c) (accepted c)
+
+  ranges : InRange (decode b)
+  ranges = in-range (layoutOf b) (decode b) (h .passed-tests .ranges)
+
+  pub few-tasks : decode b .tasks ≤ maxTasks
+  few-tasks = counts-read b h .tasks
+
+  pub not-in-sheet : notInSheet (decode b) start ds ≡ true → refused 31 ≡ answered
+  unfolding routeTests
+  not-in-sheet e = sym (rw e)
+
+  module _ (p₁ : notInSheet (decode b) start ds ≡ false) where
+    pub doors-in : inSheet (decode b) ds ≡ true
     unfolding notInSheet
-    can-cost =
-        let few = few-tasks b (h .sheet) in
-        costable (decode b) (light (decode b) (h .sheet .light)) (in-range (layoutOf b) (decode b) (h .sheet .passed-tests .ranges)) few _
-        (not-false _ (or-right (leb (decode b .starts) start) _ p₁)) (rw (h .doors-are, length-doors) few)
+    doors-in = not-false _ (or-right (leb (decode b .starts) start) _ p₁)
 
-    module _ (p₂ : doneTwice (decode b) (take (x .count) tasks) ≡ false) where
-      pub wrong-order : breaksPair (decode b) (take (x .count) tasks) ≡ true → refused 33 ≡ validate b q
-      wrong-order e = sym (judged ∙ rw (p₁, p₂, e))
+    pub start-in : start < decode b .starts
+    unfolding notInSheet
+    start-in = leb-false (decode b .starts) start (or-left _ (not (inSheet (decode b) ds)) p₁)
 
-      -- r is the cost that the code finds, from point p
-      module _ (p₃ : breaksPair (decode b) (take (x .count) tasks) ≡ false) {p r : ℕ} (e : p ≡ decode b .startPoint start)
-          (c : r ≡ cost (decode b) p (take (x .count) (x .doors))) where
-        found : r ≡ roundCost (decode b) start (take (x .count) (x .doors))
-        unfolding roundCost
-        found = rw e at c
+    pub tasks-in : allIn (λ t. ltb t (decode b .tasks)) (map (decode b .task) ds) ≡ true
+    tasks-in = tasks-below (decode b) ranges ds doors-in
 
-        pub wrong-cost : (x .cost ≡ r → ⊥) → refused 34 ≡ validate b q
-        unfolding wrongCost
-        wrong-cost n = sym (judged ∙ rw (p₁, p₂, p₃, ← found, ne-eqb (x .cost) r n))
+    pub tasks-small : allIn (λ t. ltb t maxTasks) (map (decode b .task) ds) ≡ true
+    tasks-small = in-all (λ (t : ℕ). ltb t maxTasks) (map (decode b .task) ds)
+        (all-imply (λ (t : ℕ). ltb t (decode b .tasks) ≡ true) (λ (t : ℕ). ltb t maxTasks ≡ true)
+        (λ t (w : ltb t (decode b .tasks) ≡ true). lt-ltb t maxTasks (omega (arith, ltb-true t (decode b .tasks) w, few-tasks)))
+        (map (decode b .task) ds) (all-in (λ (t : ℕ). ltb t (decode b .tasks)) (map (decode b .task) ds) tasks-in))
 
-        pub right-cost : x .cost ≡ r → accepted r ≡ validate b q
-        unfolding wrongCost
-        right-cost s = sym (judged ∙ rw (p₁, p₂, p₃, ← found, eq-eqb (x .cost) r s, s))
+    pub done-twice : doneTwice (decode b) (map (decode b .task) ds) ≡ true → refused 32 ≡ answered
+    unfolding routeTests
+    done-twice e = sym (rw (p₁, e))
+
+    module _ (p₂ : doneTwice (decode b) (map (decode b .task) ds) ≡ false) where
+      pub wrong-order : breaksPair (decode b) (map (decode b .task) ds) ≡ true → refused 33 ≡ answered
+      unfolding routeTests
+      wrong-order e = sym (rw (p₁, p₂, e))
+
+      module _ (p₃ : breaksPair (decode b) (map (decode b .task) ds) ≡ false) where
+        pub solves : isSolution (decode b) start ds ≡ true
+        solves = judged-solution (decode b) ranges start ds size p₁ p₂ p₃
+
+        -- r is the cost that the code finds, from point p
+        module _ {p r : ℕ} (e : p ≡ decode b .startPoint start) (k : r ≡ cost (decode b) p ds) where
+          found : r ≡ roundCost (decode b) start ds
+          unfolding roundCost
+          found = rw e at k
+
+          pub wrong-cost : (c ≡ r → ⊥) → refused 34 ≡ answered
+          unfolding routeTests wrongCost
+          wrong-cost n = sym (rw (p₁, p₂, p₃, ← found, ne-eqb c r n))
+
+          pub right-cost : c ≡ r → accepted r ≡ answered
+          unfolding routeTests wrongCost
+          right-cost s = sym (rw (p₁, p₂, p₃, ← found, eq-eqb c r s, s))

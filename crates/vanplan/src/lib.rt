@@ -23,9 +23,9 @@ pub extern "C" fn vanplan_read(sheet: &[u8], tasks: &mut u64, points: &mut u64) 
 {
     let reading = sheet::read(sheet);
     match reading {
-        Reading::Read(counts) => {
-            *tasks = counts.tasks as u64;
-            *points = counts.points as u64;
+        Reading::Read(v) => {
+            *tasks = v.tasks as u64;
+            *points = v.points as u64;
             OK
         }
         Reading::Refused(refusal) => refusal::number_of(refusal),

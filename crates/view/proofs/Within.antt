@@ -8,17 +8,21 @@ use lib.Arith.{digits-lt}
 use lib.Dec.{lit<}
 use lib.ListN.{length, getD}
 use Rattle.model.specs.Bytes.{numberAt}
-use Rattle.model.specs.SheetLayout.{distancesBody, bodies, kind1, fieldWidth, bytesBefore, entryBytes, entries, bodyAt, decodeBy, layoutOf, decode}
+use Rattle.model.specs.SheetLayout.{distancesBody, bodies, kind1, fieldWidth, bytesBefore, entryBytes, lineAt, entries, bodyAt, decodeBy, layoutOf, decode}
 use Rattle.model.proofs.Passing.{field-within}
-use Rattle.field.specs.Places.{placesOf}
-use Rattle.field.proofs.Fields.{at-place}
+use Rattle.view.proofs.Fields.{at-place}
 use Rattle.view.specs.declared.View.{View}
-use Rattle.view.specs.Views.{viewOf, distancesAt, Viewed}
+use Rattle.view.specs.Views.{placesOf, viewOf, distancesAt, Viewed}
 
 -- field f of entry e of body i, where `place` is the body's
 pub within : (i f e : ℕ) {b : List ℕ} {v : View} {place : ℕ} → Viewed b v → place ≡ bodyAt (layoutOf b) b i → i < bodies → e < entries b i
     → f < length (getD ((layoutOf b) .fieldWidths) i []) → place + e * entryBytes (layoutOf b) i + bytesBefore (layoutOf b) i f + fieldWidth (layoutOf b) i f ≤ length b
 within i f e {b} h p li le lf = rw p (field-within (layoutOf b) b (h .ends) i e f li le lf)
+
+-- so does the head
+pub head-within : {b : List ℕ} {v : View} → Viewed b v → 46 ≤ length b
+unfolding lineAt
+head-within h = rw (h .ends) (omega arith)
 
 module _ {b : List ℕ} {v : View} (h : Viewed b v) (p q : ℕ) (lp : p < decode b .points) (lq : q < decode b .points) where
   -- the distance from p to q is among the P times P

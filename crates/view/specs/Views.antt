@@ -3,9 +3,20 @@ use mathlib.Core.Path.{_≡_}
 use mathlib.Core.List.{List}
 use Prim.Native.Nat.{ℕ, _+_, _*_}
 use lib.ListN.{length}
-use Rattle.model.specs.SheetLayout.{distancesBody, bodies, entries, bodyAt, layoutOf, decode}
-use Rattle.field.specs.Places.{placesOf}
+use Rattle.model.specs.SheetLayout.{doorsBody, startsBody, pairsBody, rulesBody, pointsBody, distancesBody, bodies, entries, bodyAt, layoutOf, decode}
+use Rattle.view.specs.declared.Places.{Places}
 use Rattle.view.specs.declared.View.{View}
+
+-- the places of the bodies behind the first
+unfoldable pub placesOf : List ℕ → Places
+placesOf b = record {
+  doors = bodyAt (layoutOf b) b doorsBody;
+  starts = bodyAt (layoutOf b) b startsBody;
+  pairs = bodyAt (layoutOf b) b pairsBody;
+  rules = bodyAt (layoutOf b) b rulesBody;
+  points = bodyAt (layoutOf b) b pointsBody;
+  distances = bodyAt (layoutOf b) b distancesBody;
+}
 
 -- the view of the sheet b
 unfoldable pub viewOf : List ℕ → View

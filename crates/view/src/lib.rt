@@ -6,13 +6,46 @@ ghost use lib.ListN.{length};
 ghost use Rattle.model.specs.Bytes.{numberAt};
 ghost use Rattle.model.specs.SheetLayout.{decode};
 ghost use Rattle.view.specs.Views.{viewOf, distancesAt, Viewed};
-use field::DISTANCE_BYTES;
-use field::DOOR_BYTES;
-use field::PAIR_BYTES;
-use field::POINT_BYTES;
-use field::Places;
-use field::RULE_BYTES;
-use field::START_BYTES;
+use head::DOORS_BODY;
+use head::PAIRS_BODY;
+use head::POINTS_BODY;
+use head::RULES_BODY;
+use head::STARTS_BODY;
+use head::TASKS_BODY;
+use head::entries;
+use number::to_i16;
+
+// The bytes before the first body, and those of an entry of each body.
+pub const HEAD_BYTES: u32 = 46;
+
+pub const TASK_BYTES: u32 = 2;
+
+pub const DOOR_BYTES: u32 = 10;
+
+pub const START_BYTES: u32 = 2;
+
+pub const PAIR_BYTES: u32 = 4;
+
+pub const RULE_BYTES: u32 = 10;
+
+pub const POINT_BYTES: u32 = 4;
+
+pub const DISTANCE_BYTES: u32 = 2;
+
+// The most tasks and doors of a sheet.
+pub const MAX_TASKS: usize = 12;
+
+pub const MAX_DOORS: usize = 64;
+
+// The places of the bodies behind the first, each where the one before ends.
+pub struct Places {
+    pub doors: u32,
+    pub starts: u32,
+    pub pairs: u32,
+    pub rules: u32,
+    pub points: u32,
+    pub distances: u32,
+}
 
 // The counts of a sheet and the places of its bodies.
 pub struct View {
@@ -30,14 +63,33 @@ impl View {
     pub fn of(s: &[u8]) -> Self
         ensures { λ r. ⌜ r ≡ viewOf (now (s .entry)) ⌝ }
     {
+        let tasks = entries(s, TASKS_BODY);
+        let doors = entries(s, DOORS_BODY);
+        let starts = entries(s, STARTS_BODY);
+        let pairs = entries(s, PAIRS_BODY);
+        let rules = entries(s, RULES_BODY);
+        let points = entries(s, POINTS_BODY);
+        let doors_at = HEAD_BYTES + tasks as u32 * TASK_BYTES;
+        let starts_at = doors_at + doors as u32 * DOOR_BYTES;
+        let pairs_at = starts_at + starts as u32 * START_BYTES;
+        let rules_at = pairs_at + pairs as u32 * PAIR_BYTES;
+        let points_at = rules_at + rules as u32 * RULE_BYTES;
+        let distances_at = points_at + points as u32 * POINT_BYTES;
         View {
-            tasks: field::tasks(s),
-            doors: field::doors(s),
-            starts: field::starts(s),
-            pairs: field::pairs(s),
-            rules: field::rules(s),
-            points: field::points(s),
-            at: Places::of(s),
+            tasks: tasks,
+            doors: doors,
+            starts: starts,
+            pairs: pairs,
+            rules: rules,
+            points: points,
+            at: Places {
+                doors: doors_at,
+                starts: starts_at,
+                pairs: pairs_at,
+                rules: rules_at,
+                points: points_at,
+                distances: distances_at,
+            },
         }
     }
 }
@@ -76,6 +128,22 @@ fn field4(s: &[u8], at: u32, e: u16, size: u32, before: u16) -> u32
         s,
         at as usize + e as usize * size as usize + before as usize,
     )
+}
+
+// Van and goods when all tasks are done.
+pub fn end_load(s: &[u8], v: View) -> u16
+    requires { ⌜ Viewed (now s) v ⌝ }
+    ensures { λ r. ⌜ r ≡ decode (now (s .entry)) .endLoad ⌝ }
+{
+    u16_at(s, 2)
+}
+
+// Of a task.
+pub fn change(s: &[u8], v: View, t: u16) -> i16
+    requires { ⌜ Viewed (now s) v × (t < decode (now s) .tasks) ⌝ }
+    ensures { λ r. ⌜ r ≡ decode (now (s .entry)) .change t ⌝ }
+{
+    to_i16(field2(s, HEAD_BYTES, t, TASK_BYTES, 0))
 }
 
 // Of a door.

@@ -1,7 +1,8 @@
 -- What is gathered are the doors whose task can come first, and the first of them through which the cost is that of the cell is the next door. Assumes nothing.
 use mathlib.Core.Path.{_≡_, refl, sym}
 use mathlib.Core.Bool.{true}
-use Prim.Native.Nat.{_<_}
+use Prim.Native.Nat.{_+_, _*_, _^_, _≤_, _<_}
+use native.Mathlib.Nat.{mul-le-mul-right}
 use native.Mathlib.Omega.{arith}
 use lib.ListN.{length}
 use lib.Pow.{areBytes}
@@ -40,7 +41,7 @@ held c =
 -- ---- the needs
 
 load-requires : tie.Need-load-requires
-load-requires c κs = load-asks (c .before .before .pre .0) (c .before .before .pre .1)
+load-requires c κs = let p = c .before .before .pre in (p .0 .sheet .view, load-asks (p .0) (p .1))
 
 rest-rows-requires : tie.Need-rest-rows-requires
 rest-rows-requires c κs = search needs
@@ -63,14 +64,21 @@ gather-requires c κs = gather-asks (entry c .pre .0) (entry c .pre .1) (bytes c
 cast-here : tie.Need-cast-here
 cast-here c = search needs
 
+-- the cell's number is far below 2 ^ 64
+place : (c : tie.After-struct-known) → let a = start (c .before .before .before .before) .args in a .k * a .v .points + a .p < 2 ^ 49
+place c =
+    let a = start (c .before .before .before .before) .args in
+    let m : a .k * a .v .points ≤ 4294967295 * a .v .points = mul-le-mul-right (a .v .points) (omega arith) in
+    omega arith
+
 mul-here : tie.Need-mul-here
-mul-here c = omega (arith, cell-in (start (c .before .before .before .before) .pre .0))
+mul-here c = omega (arith, place c)
 
 add-here : tie.Need-add-here
-add-here c = omega (arith, cell-in (start (c .before .before .before .before) .pre .0))
+add-here c = omega (arith, place c)
 
 mul-here-2 : tie.Need-mul-here-2
-mul-here-2 c = omega (arith, cell-in (start (c .before .before .before .before) .pre .0))
+mul-here-2 c = omega (arith, place c)
 
 shared-slice-read-here : tie.Need-shared-slice-read-here
 shared-slice-read-here c = cell-in (start (c .before .before .before .before .before) .pre .0)

@@ -43,7 +43,7 @@ row-asks c =
     (c .gather .result) _ (e .0) (c .before .before .before .before .before .before .before .load .ensures) _ _ _ _ (e .1 .1 .0) (e .1 .1 .1)
 
 load-requires : tie.Need-load-requires
-load-requires c κs = let p = c .before .before .pre in p .0 .loads _ (p .1) (p .2)
+load-requires c κs = let p = c .before .before .pre in (p .0 .view, p .0 .loads _ (p .1) (p .2))
 
 rest-rows-requires : tie.Need-rest-rows-requires
 rest-rows-requires c κs = search needs

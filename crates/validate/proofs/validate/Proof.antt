@@ -1,8 +1,11 @@
--- A sheet that reads goes to the judge with its number of tasks, and a fault of the sheet is the answer. Assumes nothing.
+-- A sheet that reads goes to the judge with its view, and a fault of the sheet is the answer. Assumes nothing.
 use mathlib.Core.Path.{sym, ap, _∙_}
+use Rattle.model.specs.Answer.{status}
+use Rattle.view.specs.Views.{viewOf}
+use Rattle.sheet.specs.Answers.{answerOf, viewIn}
+use Rattle.sheet.specs.declared.Reading.{Reading}
+use Rattle.validate.proofs.Judging.{sheet-refused}
 use borrow.Author.Needs.{needs}
-use Rattle.sheet.specs.Answers.{answerOf}
-use Rattle.validate.proofs.Judging.{read-counts, sheet-refused}
 use Rattle.validate.proofs.validate.Statement.{statement}
 use Rattle.validate.proofs.validate.Tie as tie
 
@@ -13,7 +16,12 @@ enum-known-reading : tie.Need-enum-known-reading
 enum-known-reading c = search needs
 
 validate-plan-requires : tie.Need-validate-plan-requires
-validate-plan-requires c κs = read-counts _ (ap answerOf (sym (c .before .reading .given .1)) ∙ c .before .before .before .read .ensures)
+validate-plan-requires c κs =
+    let m = c .before in
+    let b = m .before .before .before .before .before .args .s .now in
+    let e = m .reading .given .1 in
+    let r = m .before .before .read .ensures in
+    (ap status (sym (r .0)) ∙ ap (λ (x : Reading). status (answerOf x)) e, ap (λ (x : Reading). viewIn x (viewOf b)) (sym e) ∙ r .1)
 
 enum-known-reading-2 : tie.Need-enum-known-reading-2
 enum-known-reading-2 c = search needs
@@ -22,7 +30,7 @@ returns : tie.Need-returns
 returns c = search needs
 
 returns-2 : tie.Need-returns-2
-returns-2 c = sheet-refused _ _ (ap answerOf (sym (c .before .reading2 .given .1)) ∙ c .before .before .before .read .ensures)
+returns-2 c = sheet-refused _ _ (ap answerOf (sym (c .before .reading2 .given .1)) ∙ c .before .before .before .read .ensures .0)
 
 pub validate-spec : {M : Type 1} → statement M
 validate-spec =

@@ -25,12 +25,12 @@ number-of-requires c κs = search needs
 
 returns : tie.Need-returns
 returns c =
-    let e = sym (c .before .before .before .before .before .read .ensures) ∙ ap answerOf (c .before .before .before .reading .given .1) in
+    let e = sym (c .before .before .before .before .before .read .ensures .0) ∙ ap answerOf (c .before .before .before .reading .given .1) in
     (rw e, (rw e, rw e))
 
 returns-2 : tie.Need-returns-2
 returns-2 c =
-    let e = sym (c .before .before .before .before .read .ensures) ∙ ap answerOf (c .before .before .reading2 .given .1) in
+    let e = sym (c .before .before .before .before .read .ensures .0) ∙ ap answerOf (c .before .before .reading2 .given .1) in
     (rw e (c .number-of .ensures), (rw e, rw e))
 
 pub vanplan-read-spec : {M : Type 1} → statement M

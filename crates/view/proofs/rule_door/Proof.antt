@@ -2,10 +2,9 @@
 use mathlib.Core.Path.{ap}
 use lib.Dec.{lit<}
 use Rattle.model.specs.SheetLayout.{rulesBody, kind1, fieldWidth, bytesBefore, entryBytes, decodeBy, layoutOf, decode}
-use Rattle.field.specs.Places.{placesOf}
-use Rattle.field.proofs.Fields.{at-place}
+use Rattle.view.proofs.Fields.{at-place}
 use Rattle.view.specs.declared.View.{View}
-use Rattle.view.specs.Views.{viewOf}
+use Rattle.view.specs.Views.{placesOf, viewOf}
 use Rattle.view.proofs.Within.{within}
 use Rattle.view.proofs.rule_door.Statement.{statement}
 use Rattle.view.proofs.rule_door.Tie as tie

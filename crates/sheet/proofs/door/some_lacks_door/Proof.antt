@@ -1,66 +1,55 @@
--- The inner loop has passed doors of other tasks only, the outer one tasks with a door. The outer loop is left before its end only where no door is left for the task in hand.
--- Assumes nothing.
-use mathlib.Core.Path.{_≡_, refl, sym, ap, _∙_}
+-- The tasks of the doors so far are seen, and every task so far has a door. The outer loop is left before its end only where every door was looked at and the task in hand
+-- was not seen. Assumes nothing.
+use mathlib.Core.Path.{_≡_, refl, sym, _∙_}
 use mathlib.Core.Logic.{⊎-elim}
-use mathlib.Core.Bool.{Bool, true, false, not}
-use Prim.Native.Nat.{ℕ, _+_, _-_, _≤_, _<_}
+use mathlib.Core.Bool.{true, false}
+use Prim.Native.Nat.{ℕ, _-_, _≤_, _<_}
 use native.Mathlib.Omega.{arith}
-use lib.Dec.{eqb, ltb}
-use borrow.Author.Tests.{eq-eqb, ne-eqb, lt-ltb, le-ltb}
+use lib.Dec.{ltb}
+use borrow.Author.Tests.{lt-ltb, le-ltb, not-true, not-false}
 use borrow.Author.Needs.{needs}
-use Rattle.model.specs.Folds.{allBelow, anyBelow}
+use Rattle.model.specs.Folds.{anyBelow}
 use Rattle.model.specs.Sheet.{Sheet}
 use Rattle.model.specs.SheetLayout.{decode}
 use Rattle.model.specs.Faults.{lacksDoor, someLacksDoor}
-use Rattle.model.proofs.Tests.{all-false, any-true, any-next, all-next}
+use Rattle.model.proofs.Tests.{any-true, any-next}
+use Rattle.view.proofs.Counted.{tasks-are, doors-are}
+use Rattle.sheet.proofs.Served.{Seen, none-seen, next-seen, seen-served, not-seen}
 use Rattle.sheet.proofs.door.some_lacks_door.Statement.{statement}
 use Rattle.sheet.proofs.door.some_lacks_door.Tie as tie
 
--- door d is not one of task t
-abbrev other : Sheet → ℕ → ℕ → Bool
-other S t d = not (eqb (S .task d) t)
-
-module _ (S : Sheet) (t d : ℕ) where
-  next-door : {r : ℕ} → r ≡ S .task d → (r ≡ t → ⊥) → allBelow d (other S t) ≡ true → allBelow (d + 1) (other S t) ≡ true
-  next-door e n h = all-next d (other S t) h (ap not (ne-eqb _ _ (λ q. n (e ∙ q))))
-
-  next-served : S .task d ≡ t → d < S .doors → anyBelow t (lacksDoor S) ≡ false → anyBelow (t + 1) (lacksDoor S) ≡ false
-  unfolding lacksDoor
-  next-served e l h = any-next t (lacksDoor S) h (all-false (S .doors) (other S t) d l (ap not (eq-eqb _ _ e)))
-
-  one-lacks : {n : ℕ} → n ≡ S .tasks → t < n → d ≡ S .doors → allBelow d (other S t) ≡ true → ltb t n ≡ anyBelow (S .tasks) (lacksDoor S)
-  unfolding lacksDoor
-  one-lacks {n} e l q h = lt-ltb t n l ∙ sym (any-true (S .tasks) (lacksDoor S) t (omega arith) (rw q at h))
+one-lacks : (S : Sheet) (t n : ℕ) → n ≡ S .tasks → t < n → lacksDoor S t ≡ true → ltb t n ≡ anyBelow (S .tasks) (lacksDoor S)
+one-lacks S t n e l h = lt-ltb t n l ∙ sym (any-true (S .tasks) (lacksDoor S) t (omega arith) h)
 
 none-lacks : (S : Sheet) (t n : ℕ) → n ≤ t → t ≡ S .tasks → anyBelow t (lacksDoor S) ≡ false → ltb t n ≡ anyBelow (S .tasks) (lacksDoor S)
 none-lacks S t n l e h = le-ltb t n l ∙ sym (rw e at h)
 
 abbrev Inv-loop : tie.InvT-loop
-Inv-loop s tasks doors t d₀ d = (d ≤ doors) × (allBelow d (other (decode s) t) ≡ true)
+Inv-loop s v tasks doors seen₀ d₀ t seen d = Seen (decode s) seen d
 
 abbrev μ-loop : tie.MeasureT-loop
-μ-loop s tasks doors t d₀ d = doors - d
+μ-loop s v tasks doors seen₀ d₀ t seen d = doors - d
 
 abbrev Inv-tasks : tie.InvT-tasks
-Inv-tasks s tasks doors t₀ t = (t ≤ tasks) × (anyBelow t (lacksDoor (decode s)) ≡ false)
+Inv-tasks s v tasks doors seen₀ d₀ t₀ seen d t = (t ≤ tasks) × Seen (decode s) seen d × (anyBelow t (lacksDoor (decode s)) ≡ false)
 
 abbrev μ-tasks : tie.MeasureT-tasks
-μ-tasks s tasks doors t₀ t = tasks - t
-
-tasks-requires : tie.Need-tasks-requires Inv-loop μ-loop Inv-tasks μ-tasks
-tasks-requires c κs = search needs
-
-doors-requires : tie.Need-doors-requires Inv-loop μ-loop Inv-tasks μ-tasks
-doors-requires c κs = search needs
+μ-tasks s v tasks doors seen₀ d₀ t₀ seen d t = tasks - t
 
 tasks-holds : tie.Need-tasks-holds Inv-loop μ-loop Inv-tasks μ-tasks
-tasks-holds c = (omega arith, refl)
+tasks-holds c = (omega arith, none-seen _, refl)
 
 loop-holds : tie.Need-loop-holds Inv-loop μ-loop Inv-tasks μ-tasks
-loop-holds c = (omega arith, refl)
+loop-holds c = c .before .tasks .inv .1
+
+contains-requires : tie.Need-contains-requires Inv-loop μ-loop Inv-tasks μ-tasks
+contains-requires c κs = search needs
 
 task-requires : tie.Need-task-requires Inv-loop μ-loop Inv-tasks μ-tasks
-task-requires c κs = search needs
+task-requires c κs = let p = c .before .before .before .before .before .before .before .pre .0 in (p, rw (← doors-are p) (c .if2 .left))
+
+with-requires : tie.Need-with-requires Inv-loop μ-loop Inv-tasks μ-tasks
+with-requires c κs = search needs
 
 add-d : tie.Need-add-d Inv-loop μ-loop Inv-tasks μ-tasks
 add-d c = search needs
@@ -70,9 +59,9 @@ loop-less c = search needs
 
 loop-again : tie.Need-loop-again Inv-loop μ-loop Inv-tasks μ-tasks
 loop-again c =
-    let l = c .before .before .before .loop in
-    let s = c .before .before .before .before .before .before .before .before .before .args .s .now in
-    (omega arith, next-door (decode s) _ (l .d) (c .before .task .ensures) (c .if1 .left) (l .inv .1))
+    let l = c .before .before .before .before .before in
+    let n = doors-are (l .before .before .before .before .pre .0) in
+    next-seen (l .loop .inv) (omega arith) (c .before .task .ensures) (c .with .ensures)
 
 add-t : tie.Need-add-t Inv-loop μ-loop Inv-tasks μ-tasks
 add-t c = search needs
@@ -82,18 +71,21 @@ tasks-less c = search needs
 
 tasks-again : tie.Need-tasks-again Inv-loop μ-loop Inv-tasks μ-tasks
 tasks-again c =
-    let o = c .before .before .before .before .before .tasks in (
-      omega arith,
-      next-served _ (o .t) (c .before .before .before .loop .d) (sym (c .before .task .ensures) ∙ c .if1 .taken) (omega arith) (o .inv .1),
-    )
+    let l = c .before .before in
+    let o = l .before .before .tasks in
+    let p = l .before .before .before .before .pre in
+    let n = tasks-are (p .0) in
+    (omega arith, l .loop .inv, any-next (o .t) (lacksDoor _) (o .inv .2) (seen-served (l .loop .inv) (omega (arith, p .1)) (sym (c .before .contains .ensures) ∙ not-false _ (c .if1 .left))))
 
 returns : tie.Need-returns Inv-loop μ-loop Inv-tasks μ-tasks
 unfolding someLacksDoor
 returns c =
     let o = c .before .tasks in
+    let p = c .before .before .before .pre in
+    let n = tasks-are (p .0) in
     ⊎-elim
-    (λ w. none-lacks _ (o .t) _ (w .left) (omega arith) (o .inv .1))
-    (λ w. one-lacks _ (o .t) (w .1 .d) (c .before .before .before .tasks2 .ensures) (w .0 .taken) (omega arith) (w .1 .inv .1))
+    (λ w. none-lacks _ (o .t) _ (w .0 .left) (omega arith) (o .inv .2))
+    (λ w. one-lacks _ (o .t) _ n (w .0 .taken) (not-seen (w .1 .inv) (omega (arith, p .1)) (rw (← doors-are (p .0)) (w .4 .taken)) (sym (w .2 .ensures) ∙ not-true _ (w .3 .taken))))
     (c .tasks-test .came)
 
 pub some-lacks-door-spec : {M : Type 1} → statement M
@@ -104,11 +96,11 @@ some-lacks-door-spec =
     μ-loop
     Inv-tasks
     μ-tasks
-    tasks-requires
-    doors-requires
     tasks-holds
     loop-holds
+    contains-requires
     task-requires
+    with-requires
     add-d
     loop-less
     loop-again

@@ -9,9 +9,8 @@ use Rattle.model.specs.Folds.{anyBelow}
 use Rattle.model.specs.SheetLayout.{bodies, lineAt, bodyAt, layoutOf}
 use Rattle.model.specs.Faults.{wrongLine, wrongLength, wrongPlaces}
 use Rattle.model.proofs.Tests.{or-last, any-true}
-use Rattle.field.proofs.Fields.{product-lt}
 use Rattle.model.proofs.Searches.{Searched, next}
-use Rattle.sheet.proofs.Places.{next-body}
+use Rattle.sheet.proofs.Places.{next-body, product-lt}
 use borrow.Author.Needs.{needs}
 use Rattle.sheet.proofs.layout.wrong_places.Statement.{statement}
 use Rattle.sheet.proofs.layout.wrong_places.Tie as tie

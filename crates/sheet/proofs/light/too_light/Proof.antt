@@ -1,25 +1,27 @@
--- The loop's sum is the end load plus the negative changes of the tasks below t, in 64 bits that it cannot leave. Assumes nothing.
+-- The loop's sum is the end load plus the negative changes of the tasks below t, in 32 bits that as many tasks as a mask has bits cannot leave. Assumes nothing.
 use mathlib.Core.Path.{sym, ap}
 use mathlib.Core.Logic.{⊎-elim}
-use Prim.Native.Nat.{_-_, _≤_}
+use Prim.Native.Nat.{suc, _+_, _-_, _*_, _^_, _≤_, _<_}
 use native.Mathlib.Omega.{arith}
 use lib.IntN.{pos}
-use mir.Syntax.{w16, w64}
+use mir.Syntax.{w16, w32}
 use borrow.Author.Needs.{needs}
 use Rattle.model.specs.SheetLayout.{decode}
 use Rattle.model.proofs.SignedSums.{no-sum, widened-fits, next-fits, next-sum, same-sum}
+use Rattle.view.proofs.Counted.{tasks-are}
 use Rattle.sheet.proofs.Lightest.{LightestBelow, taken-away, not-taken, all-tasks}
 use Rattle.sheet.proofs.light.too_light.Statement.{statement}
 use Rattle.sheet.proofs.light.too_light.Tie as tie
 
 abbrev Inv-loop : tie.InvT-loop
-Inv-loop s tasks lightest₀ t₀ lightest t = (t ≤ tasks) × LightestBelow (decode s) t lightest
+Inv-loop s v tasks lightest₀ t₀ lightest t = (t ≤ tasks) × LightestBelow (decode s) t lightest
 
 abbrev μ-loop : tie.MeasureT-loop
-μ-loop s tasks lightest₀ t₀ lightest t = tasks - t
+μ-loop s v tasks lightest₀ t₀ lightest t = tasks - t
 
-tasks-requires : tie.Need-tasks-requires Inv-loop μ-loop
-tasks-requires c κs = search needs
+-- one task more still leaves room
+room : (c : tie.In-loop Inv-loop μ-loop) → 65535 + suc (c .before .loop .t) * 2 ^ 15 < 2 ^ 31
+room c = let p = c .before .before .before .before .pre in omega (arith, tasks-are (p .0), p .1, c .loop-test .taken)
 
 end-load-requires : tie.Need-end-load-requires Inv-loop μ-loop
 end-load-requires c κs = search needs
@@ -31,16 +33,16 @@ loop-holds : tie.Need-loop-holds Inv-loop μ-loop
 loop-holds c = (omega arith, no-sum _ (ap pos (sym (c .end-load .ensures))) (omega arith) (omega arith))
 
 change-requires : tie.Need-change-requires Inv-loop μ-loop
-change-requires c κs = search needs
+change-requires c κs = let p = c .before .before .before .before .pre .0 in (p, rw (← tasks-are p) (c .loop-test .taken))
 
 cast-lightest-2 : tie.Need-cast-lightest-2 Inv-loop μ-loop
-cast-lightest-2 c = let r = c .before .change in widened-fits w16 (r .result) (r .ok) w64 (omega (arith, r .ok))
+cast-lightest-2 c = let r = c .before .change in widened-fits w16 (r .result) (r .ok) w32 (omega (arith, r .ok))
 
 add-lightest : tie.Need-add-lightest Inv-loop μ-loop
 add-lightest c =
     let r = c .before .change in
     let h = c .before .before .before .loop .inv .1 in
-    next-fits h (r .result) (r .ok) (taken-away h (r .ensures) (r .ok) (c .if1 .taken)) (omega arith)
+    next-fits h (r .result) (r .ok) (taken-away h (r .ensures) (r .ok) (c .if1 .taken)) (room (c .before .before))
 
 add-t : tie.Need-add-t Inv-loop μ-loop
 add-t c = search needs
@@ -54,13 +56,13 @@ loop-again c =
     let r = c .before .change in (
       omega arith,
       ⊎-elim
-          (λ w. rw (w .1) (next-sum h (r .result) (r .ok) (taken-away h (r .ensures) (r .ok) (w .0 .taken)) (omega arith)))
+          (λ w. rw (w .1) (next-sum h (r .result) (r .ok) (taken-away h (r .ensures) (r .ok) (w .0 .taken)) (room (c .before .before))))
           (λ w. rw (w .1) (same-sum h (not-taken h (r .ensures) (r .ok) (w .0 .left))))
           (c .if1 .came),
     )
 
 returns : tie.Need-returns Inv-loop μ-loop
-returns c = all-tasks (c .before .loop .inv .1) (omega arith)
+returns c = let n = tasks-are (c .before .before .before .before .pre .0) in all-tasks (c .before .loop .inv .1) (omega arith)
 
 pub too-light-spec : {M : Type 1} → statement M
 too-light-spec =
@@ -68,7 +70,6 @@ too-light-spec =
     (tie.spec
     Inv-loop
     μ-loop
-    tasks-requires
     end-load-requires
     cast-lightest
     loop-holds

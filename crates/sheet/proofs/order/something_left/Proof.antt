@@ -1,30 +1,34 @@
 -- What so many passes leave of the full list. Once empty, it stays empty. Assumes nothing.
-use mathlib.Core.Path.{_≡_, sym, ap, _∙_}
+use mathlib.Core.Path.{_≡_, sym, ap, ap₂, _∙_}
 use mathlib.Core.Bool.{not}
+use mathlib.Core.List.{List}
 use Prim.Native.Nat.{ℕ, _-_, _≤_}
 use native.Mathlib.Omega.{arith}
 use lib.Dec.{eqb}
 use borrow.Author.Needs.{needs}
-use Rattle.model.specs.Method.{fullOf, strikeOff, somethingLeft}
-use Rattle.model.specs.SheetLayout.{decode}
-use Rattle.sheet.proofs.Striking.{next-pass, empty-after}
+use Rattle.model.specs.SheetLayout.{maxTasks, decode}
+use Rattle.model.specs.Method.{fullOf, strikeOff, sendersOf, somethingLeft}
+use Rattle.model.proofs.Folds.{length-mapBelow}
+use Rattle.view.proofs.Counted.{tasks-are}
+use Rattle.sheet.specs.Method.{passBy}
+use Rattle.sheet.proofs.Striking.{pass-is, next-pass, empty-after}
 use Rattle.sheet.proofs.order.something_left.Statement.{statement}
 use Rattle.sheet.proofs.order.something_left.Tie as tie
 
 abbrev Inv-loop : tie.InvT-loop
-Inv-loop s tasks left₀ pass₀ left pass = (pass ≤ tasks) × (left ≡ strikeOff (decode s) pass (fullOf (decode s .tasks)))
+Inv-loop s tasks senders left₀ pass₀ left pass = (pass ≤ tasks) × (left ≡ strikeOff (decode s) pass (fullOf (decode s .tasks)))
 
 abbrev μ-loop : tie.MeasureT-loop
-μ-loop s tasks left₀ pass₀ left pass = tasks - pass
+μ-loop s tasks senders left₀ pass₀ left pass = tasks - pass
 
-tasks-requires : tie.Need-tasks-requires Inv-loop μ-loop
-tasks-requires c κs = search needs
+senders-requires : tie.Need-senders-requires Inv-loop μ-loop
+senders-requires c κs = let p = c .before .pre in (p .0, λ i l. omega (arith, p .1, p .2 .receiver i l))
 
 full-requires : tie.Need-full-requires Inv-loop μ-loop
 full-requires c κs = search needs
 
 loop-holds : tie.Need-loop-holds Inv-loop μ-loop
-loop-holds c = (omega arith, c .full .ensures ∙ ap fullOf (c .before .tasks .ensures))
+loop-holds c = (omega arith, c .full .ensures ∙ ap fullOf (tasks-are (c .before .before .before .pre .0)))
 
 returns : tie.Need-returns Inv-loop μ-loop
 unfolding somethingLeft
@@ -32,11 +36,17 @@ returns c =
     let s = c .before .before .before .before .before .before in
     let S = decode (s .args .s .now) in
     let l = c .before .before .loop in
+    let n = tasks-are (s .pre .0) in
     let h : l .pass ≤ S .tasks = omega arith in
     sym (ap (λ (n : ℕ). not (eqb n 0)) (empty-after S (fullOf (S .tasks)) (l .pass) (S .tasks) h (sym (l .inv .1) ∙ c .if1 .taken)))
 
+slice-aggregate-strike-pass : tie.Need-slice-aggregate-strike-pass Inv-loop μ-loop
+slice-aggregate-strike-pass c = search needs
+
 strike-pass-requires : tie.Need-strike-pass-requires Inv-loop μ-loop
-strike-pass-requires c κs = search needs
+strike-pass-requires c κs =
+    let p = c .before .before .before .before .before .before .before .pre in
+    rw (c .before .before .before .before .before .senders .ensures, length-mapBelow maxTasks (sendersOf _), tasks-are (p .0)) (p .1)
 
 add-pass : tie.Need-add-pass Inv-loop μ-loop
 add-pass c = search needs
@@ -46,8 +56,12 @@ loop-less c = search needs
 
 loop-again : tie.Need-loop-again Inv-loop μ-loop
 loop-again c =
-    let l = c .before .before .before .loop in
-    (omega arith, next-pass _ _ (l .pass) (l .inv .1) (c .strike-pass .ensures))
+    let s = c .before .before .before .before .before .before .before .before in
+    let l = c .before .before .before .before .loop in
+    let p = s .pre in
+    let e = ap₂ (λ (ws : List ℕ) (n : ℕ). passBy ws n (l .left)) (c .before .before .before .before .before .before .senders .ensures) (tasks-are (p .0)) in
+    let q = pass-is (decode (s .args .s .now)) (λ i l. omega (arith, p .1, p .2 .sender i l)) (l .left) (decode (s .args .s .now) .tasks) (p .1) in
+    (omega arith, next-pass _ _ (l .pass) (l .inv .1) (c .strike-pass .ensures ∙ e ∙ q))
 
 returns-2 : tie.Need-returns-2 Inv-loop μ-loop
 unfolding somethingLeft
@@ -55,6 +69,7 @@ returns-2 c =
     let s = c .before .before .before .before .before in
     let S = decode (s .args .s .now) in
     let l = c .before .loop in
+    let n = tasks-are (s .pre .0) in
     let e : l .pass ≡ S .tasks = omega arith in
     ap (λ (n : ℕ). not (eqb n 0)) (l .inv .1 ∙ ap (λ (n : ℕ). strikeOff S n (fullOf (S .tasks))) e)
 
@@ -64,10 +79,11 @@ something-left-spec =
     (tie.spec
     Inv-loop
     μ-loop
-    tasks-requires
+    senders-requires
     full-requires
     loop-holds
     returns
+    slice-aggregate-strike-pass
     strike-pass-requires
     add-pass
     loop-less

@@ -1,24 +1,31 @@
--- Both tests together are the definition's. Assumes nothing.
+-- The test is the definition's. Assumes nothing.
+use mathlib.Core.Path.{_≡_, sym, _∙_}
+use mathlib.Core.Bool.{true, false}
 use borrow.Author.Needs.{needs}
-use Rattle.sheet.proofs.Striking.{strikes, keeps}
+use Rattle.model.specs.Method.{maskBits, meets}
+use Rattle.sheet.specs.Method.{strikeBy}
 use Rattle.sheet.proofs.order.strike.Statement.{statement}
 use Rattle.sheet.proofs.order.strike.Tie as tie
 
-contains-requires : tie.Need-contains-requires
-contains-requires c κs = search needs
-
-is-free-requires : tie.Need-is-free-requires
-is-free-requires c κs = search needs
+meets-requires : tie.Need-meets-requires
+meets-requires c κs = search needs
 
 without-requires : tie.Need-without-requires
 without-requires c κs = search needs
 
 returns : tie.Need-returns
-returns c = strikes _ _ _ (c .before .before .before .contains .ensures) (c .before .before .is-free .ensures) (c .before .if1 .taken) (c .without .ensures)
+unfolding strikeBy
+returns c =
+    let a = c .before .before .args in
+    let e : meets maskBits (a .senders) (a .k) ≡ true = sym (c .before .meets .ensures) ∙ c .if1 .taken in
+    rw e
 
 returns-2 : tie.Need-returns-2
-returns-2 c = keeps _ _ _ (c .before .before .contains .ensures) (c .before .is-free .ensures) (c .if1 .left)
+unfolding strikeBy
+returns-2 c =
+    let a = c .before .before .before .args in
+    let e : meets maskBits (a .senders) (a .k) ≡ false = sym (c .before .before .meets .ensures) ∙ c .before .if1 .left in
+    rw e (c .without .ensures)
 
 pub strike-spec : {M : Type 1} → statement M
-strike-spec =
-    tie.close (tie.spec contains-requires is-free-requires without-requires returns returns-2)
+strike-spec = tie.close (tie.spec meets-requires without-requires returns returns-2)

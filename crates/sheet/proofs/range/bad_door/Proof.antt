@@ -1,14 +1,16 @@
--- The door's task and points are held to the numbers of tasks and points. Assumes nothing.
+-- The door's task and points are held to the numbers of tasks and points, each only where the ones before are in range. Assumes nothing.
+use mathlib.Core.Path.{_≡_, sym, ap₂, _∙_}
+use mathlib.Core.Logic.{⊎-elim}
+use mathlib.Core.Bool.{_||_}
+use lib.Dec.{leb}
+use borrow.Author.Tests.{le-leb, lt-leb}
+use Rattle.model.specs.SheetLayout.{decode}
 use Rattle.model.specs.Faults.{badDoor}
+use Rattle.model.proofs.Tests.{or-last}
+use Rattle.view.proofs.Counted.{tasks-are, points-are}
 use borrow.Author.Needs.{needs}
 use Rattle.sheet.proofs.range.bad_door.Statement.{statement}
 use Rattle.sheet.proofs.range.bad_door.Tie as tie
-
-tasks-requires : tie.Need-tasks-requires
-tasks-requires c κs = search needs
-
-points-requires : tie.Need-points-requires
-points-requires c κs = search needs
 
 task-requires : tie.Need-task-requires
 task-requires c κs = search needs
@@ -19,9 +21,27 @@ arrive-requires c κs = search needs
 depart-requires : tie.Need-depart-requires
 depart-requires c κs = search needs
 
+-- the first two tests
+two : (c : tie.Joined1) →
+    let a = c .before .before .before .args in
+    let S = decode (a .s .now) in
+    c .if1 .if2 ≡ (leb (S .tasks) (S .task (a .d)) || leb (S .points) (S .arrive (a .d)))
+two c =
+    let p = c .before .before .before .pre .0 in
+    ⊎-elim
+    (λ w. w .1 ∙ rw (← tasks-are p, ← c .before .task .ensures, le-leb _ _ (w .0 .taken)))
+    (λ w. w .2 ∙ rw (← tasks-are p, ← points-are p, ← c .before .task .ensures, ← w .1 .ensures, lt-leb _ _ (w .0 .left)))
+    (c .if1 .came)
+
 returns : tie.Need-returns
 unfolding badDoor
-returns c = rw (c .depart .ensures, c .before .arrive .ensures, c .before .before .task .ensures, c .before .before .before .points .ensures, c .before .before .before .before .tasks .ensures)
+returns c = rw (sym (two (c .before)) ∙ c .if2 .taken) (c .if2 .taken)
+
+returns-2 : tie.Need-returns-2
+unfolding badDoor
+returns-2 c =
+    or-last _ _ _ (sym (two (c .before .before)) ∙ c .before .if2 .left)
+    (ap₂ leb (points-are (c .before .before .before .before .before .pre .0)) (c .depart .ensures))
 
 pub bad-door-spec : {M : Type 1} → statement M
-bad-door-spec = tie.close (tie.spec tasks-requires points-requires task-requires arrive-requires depart-requires returns)
+bad-door-spec = tie.close (tie.spec task-requires arrive-requires depart-requires returns returns-2)

@@ -1,23 +1,21 @@
--- The door, the watched list and the least count are held to their limits; the table gives the number of lists. Assumes nothing.
-use Rattle.model.specs.SheetLayout.{kind1, layoutOf}
+-- The door, the watched list and the least count are held to their limits, each only where the ones before are in range. Assumes nothing.
+use mathlib.Core.Path.{_≡_, sym, _∙_}
+use mathlib.Core.Logic.{⊎-elim}
+use mathlib.Core.Bool.{not, _||_}
+use Prim.Native.Nat.{_^_}
+use lib.Dec.{leb}
+use borrow.Author.Tests.{lt-ltb, le-ltb, le-leb, lt-leb}
+use Rattle.model.specs.Folds.{isBetween}
+use Rattle.model.specs.SheetLayout.{kind1, layoutOf, decode}
 use Rattle.model.specs.Faults.{badRule}
-use Rattle.model.proofs.Masks.{lists-of}
-use Rattle.model.proofs.Tests.{outside}
+use Rattle.model.proofs.Tests.{or-last, outside}
+use Rattle.view.proofs.Counted.{doors-are}
 use borrow.Author.Needs.{needs}
 use Rattle.sheet.proofs.range.bad_rule.Statement.{statement}
 use Rattle.sheet.proofs.range.bad_rule.Tie as tie
 
-tasks-requires : tie.Need-tasks-requires
-tasks-requires c κs = search needs
-
-lists-requires : tie.Need-lists-requires
-lists-requires c κs = search needs
-
 least-count-requires : tie.Need-least-count-requires
 least-count-requires c κs = search needs
-
-doors-requires : tie.Need-doors-requires
-doors-requires c κs = search needs
 
 rule-door-requires : tie.Need-rule-door-requires
 rule-door-requires c κs = search needs
@@ -25,23 +23,37 @@ rule-door-requires c κs = search needs
 watched-requires : tie.Need-watched-requires
 watched-requires c κs = search needs
 
-cast-result : tie.Need-cast-result
-cast-result c = search needs
+cast-if3 : tie.Need-cast-if3
+cast-if3 c = search needs
+
+count-is : (c : tie.Joined1) → let a = c .before .before .before .args in c .if1 .bad-count ≡ not (isBetween 1 12 (decode (a .s .now) .leastCount (a .i)))
+count-is c =
+    let r = c .before .least-count in
+    ⊎-elim
+    (λ w. w .1 ∙ rw (← r .ensures, ← outside 1 12 (r .result), lt-ltb (r .result) 1 (w .0 .taken)))
+    (λ w. w .1 ∙ rw (← r .ensures, ← outside 1 12 (r .result), le-ltb (r .result) 1 (w .0 .left)))
+    (c .if1 .came)
+
+-- the first two tests
+two : (c : tie.Joined2) →
+    let a = c .before .before .before .before .before .before .args in
+    let S = decode (a .s .now) in
+    c .if2 .if3 ≡ (leb (S .doors) (S .ruleDoor (a .i)) || leb (2 ^ S .tasks) (S .watched (a .i)))
+two c =
+    let p = c .before .before .before .before .before .before .pre in
+    let r = c .before .before .rule-door .ensures in
+    ⊎-elim
+    (λ w. w .1 ∙ rw (← doors-are (p .0), ← r, le-leb _ _ (w .0 .taken)))
+    (λ w. w .2 ∙ rw (← doors-are (p .0), ← r, ← p .2, ← w .1 .ensures, lt-leb _ _ (w .0 .left)))
+    (c .if2 .came)
 
 returns : tie.Need-returns
 unfolding badRule layoutOf kind1
-returns c =
-    let l = c .before .before .before .before in
-    rw (
-      c .watched .ensures,
-      c .before .rule-door .ensures,
-      c .before .before .doors .ensures,
-      c .before .before .before .least-count .ensures,
-      l .lists .ensures,
-      l .before .tasks .ensures,
-      lists-of _ (l .before .before .before .pre),
-      outside,
-    )
+returns c = rw (sym (two (c .before)) ∙ c .if3 .taken) (c .if3 .taken)
+
+returns-2 : tie.Need-returns-2
+unfolding badRule layoutOf kind1
+returns-2 c = or-last _ _ _ (sym (two (c .before)) ∙ c .if3 .left) (count-is (c .before .before .before .before))
 
 pub bad-rule-spec : {M : Type 1} → statement M
-bad-rule-spec = tie.close (tie.spec tasks-requires lists-requires least-count-requires doors-requires rule-door-requires watched-requires cast-result returns)
+bad-rule-spec = tie.close (tie.spec least-count-requires rule-door-requires watched-requires cast-if3 returns returns-2)

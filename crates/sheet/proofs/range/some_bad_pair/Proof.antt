@@ -3,28 +3,26 @@ use Prim.Native.Nat.{_-_}
 use Rattle.model.specs.SheetLayout.{decode}
 use Rattle.model.specs.Faults.{badPair, someBadPair}
 use Rattle.model.proofs.Searches.{Searched, next, none-found, found}
+use Rattle.view.proofs.Counted.{pairs-are}
 use borrow.Author.Needs.{needs}
 use Rattle.sheet.proofs.range.some_bad_pair.Statement.{statement}
 use Rattle.sheet.proofs.range.some_bad_pair.Tie as tie
 
 abbrev Inv-loop : tie.InvT-loop
-Inv-loop s pairs i₀ i = Searched pairs (badPair (decode s)) i
+Inv-loop s v pairs i₀ i = Searched pairs (badPair (decode s)) i
 
 abbrev μ-loop : tie.MeasureT-loop
-μ-loop s pairs i₀ i = pairs - i
-
-pairs-requires : tie.Need-pairs-requires Inv-loop μ-loop
-pairs-requires c κs = search needs
+μ-loop s v pairs i₀ i = pairs - i
 
 loop-holds : tie.Need-loop-holds Inv-loop μ-loop
 loop-holds c = search needs
 
 bad-pair-requires : tie.Need-bad-pair-requires Inv-loop μ-loop
-bad-pair-requires c κs = search needs
+bad-pair-requires c κs = let p = c .before .before .before .pre in (p, rw (← pairs-are p) (c .loop-test .taken))
 
 returns : tie.Need-returns Inv-loop μ-loop
 unfolding someBadPair
-returns c = found _ (c .before .before .loop-test .taken) (c .before .before .before .before .pairs .ensures) (c .before .bad-pair .ensures) (c .if1 .taken)
+returns c = found _ (c .before .before .loop-test .taken) (pairs-are (c .before .before .before .before .before .pre)) (c .before .bad-pair .ensures) (c .if1 .taken)
 
 add-i : tie.Need-add-i Inv-loop μ-loop
 add-i c = search needs
@@ -37,7 +35,7 @@ loop-again c = next (c .before .before .before .loop .inv) (c .before .before .l
 
 returns-2 : tie.Need-returns-2 Inv-loop μ-loop
 unfolding someBadPair
-returns-2 c = none-found (c .before .loop .inv) (c .loop-test .left) (c .before .before .pairs .ensures)
+returns-2 c = none-found (c .before .loop .inv) (c .loop-test .left) (pairs-are (c .before .before .before .pre))
 
 pub some-bad-pair-spec : {M : Type 1} → statement M
 some-bad-pair-spec =
@@ -45,7 +43,6 @@ some-bad-pair-spec =
     (tie.spec
     Inv-loop
     μ-loop
-    pairs-requires
     loop-holds
     bad-pair-requires
     returns

@@ -3,28 +3,26 @@ use Prim.Native.Nat.{_-_}
 use Rattle.model.specs.SheetLayout.{decode}
 use Rattle.model.specs.Faults.{badStart, someBadStart}
 use Rattle.model.proofs.Searches.{Searched, next, none-found, found}
+use Rattle.view.proofs.Counted.{starts-are}
 use borrow.Author.Needs.{needs}
 use Rattle.sheet.proofs.range.some_bad_start.Statement.{statement}
 use Rattle.sheet.proofs.range.some_bad_start.Tie as tie
 
 abbrev Inv-loop : tie.InvT-loop
-Inv-loop s starts i₀ i = Searched starts (badStart (decode s)) i
+Inv-loop s v starts i₀ i = Searched starts (badStart (decode s)) i
 
 abbrev μ-loop : tie.MeasureT-loop
-μ-loop s starts i₀ i = starts - i
-
-starts-requires : tie.Need-starts-requires Inv-loop μ-loop
-starts-requires c κs = search needs
+μ-loop s v starts i₀ i = starts - i
 
 loop-holds : tie.Need-loop-holds Inv-loop μ-loop
 loop-holds c = search needs
 
 bad-start-requires : tie.Need-bad-start-requires Inv-loop μ-loop
-bad-start-requires c κs = search needs
+bad-start-requires c κs = let p = c .before .before .before .pre in (p, rw (← starts-are p) (c .loop-test .taken))
 
 returns : tie.Need-returns Inv-loop μ-loop
 unfolding someBadStart
-returns c = found _ (c .before .before .loop-test .taken) (c .before .before .before .before .starts .ensures) (c .before .bad-start .ensures) (c .if1 .taken)
+returns c = found _ (c .before .before .loop-test .taken) (starts-are (c .before .before .before .before .before .pre)) (c .before .bad-start .ensures) (c .if1 .taken)
 
 add-i : tie.Need-add-i Inv-loop μ-loop
 add-i c = search needs
@@ -37,7 +35,7 @@ loop-again c = next (c .before .before .before .loop .inv) (c .before .before .l
 
 returns-2 : tie.Need-returns-2 Inv-loop μ-loop
 unfolding someBadStart
-returns-2 c = none-found (c .before .loop .inv) (c .loop-test .left) (c .before .before .starts .ensures)
+returns-2 c = none-found (c .before .loop .inv) (c .loop-test .left) (starts-are (c .before .before .before .pre))
 
 pub some-bad-start-spec : {M : Type 1} → statement M
 some-bad-start-spec =
@@ -45,7 +43,6 @@ some-bad-start-spec =
     (tie.spec
     Inv-loop
     μ-loop
-    starts-requires
     loop-holds
     bad-start-requires
     returns

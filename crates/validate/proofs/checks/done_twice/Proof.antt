@@ -1,55 +1,56 @@
--- A search through the tasks of the sheet for one that is counted more than once. Assumes nothing.
-use mathlib.Core.Path.{ap}
-use mathlib.Core.Bool.{Bool}
-use mathlib.Core.List.{List}
-use Prim.Native.Nat.{ℕ, _-_}
-use native.Mathlib.Omega.{arith}
-use lib.Dec.{ltb}
-use borrow.Author.Tests.{lt-ltb, le-ltb}
+-- The tasks done before place i are a list, and none of them is done twice. Assumes nothing.
+use mathlib.Core.Path.{sym, _∙_}
+use Prim.Native.Nat.{_-_}
+use lib.ListN.{length}
 use borrow.Author.Needs.{needs}
-use Rattle.model.specs.Folds.{countOf}
-use Rattle.model.specs.Validating.{doneTwice}
-use Rattle.model.proofs.Searches.{Searched, next, found, none-found}
+use Rattle.validate.proofs.Placing.{DoneTo, none-done, done-again, done-next, all-once}
+use Rattle.model.specs.SheetLayout.{decode}
 use Rattle.validate.proofs.checks.done_twice.Statement.{statement}
 use Rattle.validate.proofs.checks.done_twice.Tie as tie
 
--- task t is done more than once
-abbrev twice : List ℕ → ℕ → Bool
-twice ts t = ltb 1 (countOf t ts)
-
 abbrev Inv-loop : tie.InvT-loop
-Inv-loop s tasks n t₀ t = Searched n (twice tasks) t
+Inv-loop s tasks done₀ i₀ done i = DoneTo tasks done i
 
 abbrev μ-loop : tie.MeasureT-loop
-μ-loop s tasks n t₀ t = n - t
-
-tasks-requires : tie.Need-tasks-requires Inv-loop μ-loop
-tasks-requires c κs = search needs
+μ-loop s tasks done₀ i₀ done i = length tasks - i
 
 loop-holds : tie.Need-loop-holds Inv-loop μ-loop
-loop-holds c = search needs
+loop-holds c = none-done _
 
-count-of-requires : tie.Need-count-of-requires Inv-loop μ-loop
-count-of-requires c κs = search needs
+mul-t : tie.Need-mul-t Inv-loop μ-loop
+mul-t c = search needs
+
+shared-slice-read-t : tie.Need-shared-slice-read-t Inv-loop μ-loop
+shared-slice-read-t c = search needs
+
+contains-requires : tie.Need-contains-requires Inv-loop μ-loop
+contains-requires c κs = search needs
 
 returns : tie.Need-returns Inv-loop μ-loop
-unfolding doneTwice
 returns c =
-    let e = ap (ltb 1) (c .before .count-of .ensures) in
-    found _ (c .before .before .loop-test .taken) (c .before .before .before .before .tasks .ensures) e (lt-ltb 1 (c .before .count-of .result) (omega arith))
+    let l = c .before .before .before in
+    let p = l .before .before .before .before .pre in
+    done-again _ (p .1) (p .0) (l .before .loop .inv) (l .loop-test .taken) (sym (c .before .contains .ensures) ∙ c .if1 .taken)
 
-add-t : tie.Need-add-t Inv-loop μ-loop
-add-t c = search needs
+with-requires : tie.Need-with-requires Inv-loop μ-loop
+with-requires c κs = search needs
+
+add-i : tie.Need-add-i Inv-loop μ-loop
+add-i c = search needs
 
 loop-less : tie.Need-loop-less Inv-loop μ-loop
 loop-less c = search needs
 
 loop-again : tie.Need-loop-again Inv-loop μ-loop
-loop-again c = next (c .before .before .before .loop .inv) (c .before .before .loop-test .taken) (ap (ltb 1) (c .before .count-of .ensures)) (le-ltb 1 (c .before .count-of .result) (omega arith))
+loop-again c =
+    let m = c .before .before in
+    let l = m .before .before in
+    let a = l .before .before .before .before in
+    let p = a .pre in
+    done-next (decode (a .args .s .now)) (p .1) (p .0) (l .before .loop .inv) (l .loop-test .taken) (sym (m .contains .ensures) ∙ c .before .if1 .left) (c .with .ensures)
 
 returns-2 : tie.Need-returns-2 Inv-loop μ-loop
-unfolding doneTwice
-returns-2 c = none-found (c .before .loop .inv) (c .loop-test .left) (c .before .before .tasks .ensures)
+returns-2 c = let p = c .before .before .before .before .pre in all-once _ (p .1) (p .0) (c .before .loop .inv) (c .loop-test .left)
 
 pub done-twice-spec : {M : Type 1} → statement M
 done-twice-spec =
@@ -57,11 +58,13 @@ done-twice-spec =
     (tie.spec
     Inv-loop
     μ-loop
-    tasks-requires
     loop-holds
-    count-of-requires
+    mul-t
+    shared-slice-read-t
+    contains-requires
     returns
-    add-t
+    with-requires
+    add-i
     loop-less
     loop-again
     returns-2)

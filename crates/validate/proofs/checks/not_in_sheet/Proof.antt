@@ -13,6 +13,7 @@ use Rattle.model.specs.Sheet.{Sheet}
 use Rattle.model.specs.Plans.{inSheet}
 use Rattle.model.specs.Validating.{notInSheet}
 use Rattle.model.proofs.Walks.{PassedTo, pass-next, pass-fails, pass-all}
+use Rattle.view.proofs.Counted.{starts-are, doors-are}
 use Rattle.validate.proofs.checks.not_in_sheet.Statement.{statement}
 use Rattle.validate.proofs.checks.not_in_sheet.Tie as tie
 
@@ -40,14 +41,8 @@ Inv-loop s start doors limit i₀ i = PassedTo (λ d. ltb d limit) doors i
 abbrev μ-loop : tie.MeasureT-loop
 μ-loop s start doors limit i₀ i = length doors - i
 
-starts-requires : tie.Need-starts-requires Inv-loop μ-loop
-starts-requires c κs = search needs
-
 returns : tie.Need-returns Inv-loop μ-loop
-returns c = no-start _ _ _ (c .before .starts .ensures) (c .if1 .taken)
-
-doors-requires : tie.Need-doors-requires Inv-loop μ-loop
-doors-requires c κs = search needs
+returns c = no-start _ _ _ (starts-are (c .before .before .pre)) (c .if1 .taken)
 
 loop-holds : tie.Need-loop-holds Inv-loop μ-loop
 loop-holds c = search needs
@@ -61,8 +56,9 @@ shared-slice-read-if2 c = search needs
 returns-2 : tie.Need-returns-2 Inv-loop μ-loop
 returns-2 c =
     let a = c .before .before .before .before in
+    let v = a .before .before .pre in
     let t = door-out (c .before .before .before .loop .inv) (c .before .before .loop-test .taken) (omega arith) in
-    then-doors _ _ _ (a .before .before .starts .ensures) (a .before .if1 .left) (a .doors .ensures) t
+    then-doors _ _ _ (starts-are v) (a .if1 .left) (doors-are v) t
 
 add-i : tie.Need-add-i Inv-loop μ-loop
 add-i c = search needs
@@ -76,8 +72,9 @@ loop-again c = door-in (c .before .before .before .loop .inv) (c .before .before
 returns-3 : tie.Need-returns-3 Inv-loop μ-loop
 returns-3 c =
     let a = c .before .before in
+    let v = a .before .before .pre in
     let t = pass-all (c .before .loop .inv) (c .loop-test .left) in
-    then-doors _ _ _ (a .before .before .starts .ensures) (a .before .if1 .left) (a .doors .ensures) t
+    then-doors _ _ _ (starts-are v) (a .if1 .left) (doors-are v) t
 
 pub not-in-sheet-spec : {M : Type 1} → statement M
 not-in-sheet-spec =
@@ -85,9 +82,7 @@ not-in-sheet-spec =
     (tie.spec
     Inv-loop
     μ-loop
-    starts-requires
     returns
-    doors-requires
     loop-holds
     mul-if2
     shared-slice-read-if2

@@ -1,0 +1,125 @@
+-- Each test that did not apply is one of the definition's chain, and the first that applies is its answer. Twelve tasks at most, which 14 and 17 ask for, is what 12 has tested;
+-- 17 is decided by striking off because 14 has tested the pairs. Assumes nothing.
+use mathlib.Core.Path.{_≡_, refl, sym, ap₂, _∙_}
+use mathlib.Core.Bool.{Bool, false}
+use mathlib.Core.List.{List}
+use Prim.Native.Nat.{ℕ, _≤_}
+use native.Mathlib.Omega.{arith}
+use Rattle.model.specs.Method.{maxListed, somethingLeft}
+use Rattle.model.specs.Orders.{noOrder}
+use Rattle.model.specs.SheetLayout.{layoutOf, decode}
+use Rattle.model.specs.Faults.{outOfRange, someLacksDoor, tooLight, sheetTests, readSheet}
+use Rattle.model.specs.Passing.{InRange}
+use Rattle.model.proofs.Entries.{tasks-listed}
+use Rattle.model.proofs.Ranges.{in-range}
+use Rattle.model.proofs.NoOrder.{something-left}
+use Rattle.view.specs.Views.{Viewed}
+use Rattle.view.proofs.Counted.{tasks-are, points-are}
+use Rattle.sheet.proofs.Laid.{counts, viewed}
+use Rattle.sheet.proofs.Remaining.{answer, remaining, laid-out}
+use Rattle.sheet.proofs.read_bodies.Statement.{statement}
+use Rattle.sheet.proofs.read_bodies.Tie as tie
+
+-- ---- the sheet, and the tests that were passed, where each `if` was left
+
+abbrev bytes : tie.After-shared-slice-known → List ℕ
+bytes c = c .before .args .s .now
+
+view : (c : tie.After-shared-slice-known) → Viewed (bytes c) (c .before .args .v)
+view c = viewed (c .before .pre .0) (c .before .pre .1)
+
+few : (c : tie.After-shared-slice-known) → decode (bytes c) .tasks ≤ maxListed
+few c = tasks-listed _ (counts (c .before .pre .0) .tasks)
+
+ranges : (c : tie.Else1) → outOfRange (layoutOf (bytes (c .before .before))) (decode (bytes (c .before .before))) ≡ false
+ranges c = sym (c .before .out-of-range .ensures) ∙ c .if1 .left
+
+inside : (c : tie.Else1) → InRange (decode (bytes (c .before .before)))
+inside c = in-range (layoutOf _) _ (ranges c)
+
+-- where 15 was left
+abbrev left2 : tie.Else2 → tie.Else1
+left2 c = c .before .before .before
+
+abbrev bytes2 : tie.Else2 → List ℕ
+bytes2 c = bytes (left2 c .before .before)
+
+doors : (c : tie.Else2) → someLacksDoor (decode (bytes2 c)) ≡ false
+doors c = sym (c .before .before .some-lacks-door .ensures) ∙ c .if2 .left
+
+light : (c : tie.Else3) → tooLight (decode (bytes2 (c .before))) ≡ false
+light c = sym (c .before .before .too-light .ensures) ∙ c .if3 .left
+
+-- 17 is what striking off leaves
+order-left : (c : tie.Else2) (t : Bool) → t ≡ somethingLeft (decode (bytes2 c)) → noOrder (decode (bytes2 c)) ≡ t
+order-left c t h = something-left (decode (bytes2 c)) (inside (left2 c)) (few (left2 c .before .before)) ∙ sym h
+
+-- ---- what the tests that remain answer
+
+remaining4 : (c : tie.After-shared-slice-known) → readSheet (bytes c) ≡ remaining 4 (bytes c)
+remaining4 c = laid-out (bytes c) (c .before .pre .0)
+
+remaining5 : (c : tie.Else1) → readSheet (bytes (c .before .before)) ≡ remaining 5 (bytes (c .before .before))
+unfolding sheetTests
+remaining5 c = remaining4 (c .before .before) ∙ rw (ranges c)
+
+remaining6 : (c : tie.Else2) → readSheet (bytes2 c) ≡ remaining 6 (bytes2 c)
+unfolding sheetTests
+remaining6 c = remaining5 (left2 c) ∙ rw (doors c)
+
+remaining7 : (c : tie.Else3) → readSheet (bytes2 (c .before)) ≡ remaining 7 (bytes2 (c .before))
+unfolding sheetTests
+remaining7 c = remaining6 (c .before) ∙ rw (light c)
+
+-- ---- the answers
+
+out-of-range-requires : tie.Need-out-of-range-requires
+out-of-range-requires c κs = (view c, few c)
+
+returns : tie.Need-returns
+unfolding sheetTests
+returns c = (sym (remaining4 (c .before .before) ∙ rw (sym (c .before .out-of-range .ensures) ∙ c .if1 .taken)), refl)
+
+some-lacks-door-requires : tie.Need-some-lacks-door-requires
+some-lacks-door-requires c κs = (view (c .before .before), omega (arith, few (c .before .before)))
+
+too-light-requires : tie.Need-too-light-requires
+too-light-requires c κs = let k = c .before .before .before in (view k, omega (arith, few k))
+
+returns-2 : tie.Need-returns-2
+unfolding sheetTests
+returns-2 c = (sym (remaining5 (c .before .before .before) ∙ rw (sym (c .before .before .some-lacks-door .ensures) ∙ c .if2 .taken)), refl)
+
+returns-3 : tie.Need-returns-3
+unfolding sheetTests
+returns-3 c = (sym (remaining6 (c .before) ∙ rw (sym (c .before .before .too-light .ensures) ∙ c .if3 .taken)), refl)
+
+something-left-requires : tie.Need-something-left-requires
+something-left-requires c κs = let e = left2 (c .before) in (view (e .before .before), few (e .before .before), inside e)
+
+returns-4 : tie.Need-returns-4
+unfolding sheetTests
+returns-4 c = (sym (remaining7 (c .before .before) ∙ rw (order-left (c .before .before .before) _ (c .before .something-left .ensures) ∙ c .if4 .taken)), refl)
+
+returns-5 : tie.Need-returns-5
+unfolding sheetTests
+returns-5 c =
+    let b = left2 (c .before .before .before) .before .before in (
+      ap₂ answer (tasks-are (view b)) (points-are (view b))
+          ∙ sym (remaining7 (c .before .before) ∙ rw (order-left (c .before .before .before) _ (c .before .something-left .ensures) ∙ c .if4 .left)),
+      b .before .pre .1,
+    )
+
+pub read-bodies-spec : {M : Type 1} → statement M
+read-bodies-spec =
+    tie.close
+    (tie.spec
+    out-of-range-requires
+    returns
+    some-lacks-door-requires
+    too-light-requires
+    returns-2
+    returns-3
+    something-left-requires
+    returns-4
+    returns-5)
