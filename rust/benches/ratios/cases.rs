@@ -2,12 +2,12 @@
 
 use crate::calls::Calls;
 use crate::common::corrupt::change_some_field;
-use crate::common::faulty::{short_with_faults, with_faults};
+use crate::common::faulty::with_fault;
 use crate::common::judging::cost;
 use crate::common::plan::{plan_len, Plan};
-use crate::common::reading::NUMBERS;
 use crate::common::rng::Rng;
 use crate::common::sheet::Sheet;
+use crate::common::tested::READING;
 use crate::common::valid::{make_small, valid, ROOMY, SMALL};
 use crate::compare::{Comparison, Room};
 
@@ -27,11 +27,8 @@ pub fn compare_small(calls: &Calls, all: &mut Comparison) {
         change_some_field(&mut rng, &sheet, &mut written);
         let case = format!("seed {seed}, a field changed");
         compare_sheet(calls, all, &mut rng, &written.bytes, &case);
-        for number in NUMBERS {
-            let sheet = match number {
-                10 => short_with_faults(&mut rng, &[]),
-                _ => with_faults(&mut rng, &[number]),
-            };
+        for number in READING {
+            let sheet = with_fault(&mut rng, number);
             let case = format!("seed {seed}, fault {number}");
             compare_sheet(calls, all, &mut rng, &sheet, &case);
         }

@@ -1,32 +1,45 @@
 //! Reading a sheet: the comparison of the product with the plain reading, and tallies of the numbers that were met.
 
+use super::interface;
+use super::lent::Place;
 use super::reading::{faults, reading};
+use super::rng::Rng;
 use super::tally::Times;
-use std::fmt::Arguments;
+use std::fmt::{self, Arguments};
 use vanplan::{read, read_into, Counts, Refusal, ACCEPTED};
 
-/// What stands in the two lent cells before a call: no number of tasks or points, in either half.
-const LENT: (u64, u64) = (0xdead_beef_0bad_f00d, 0x0123_4567_89ab_cdef);
+type Call = fn(&[u8], &mut u64, &mut u64) -> u32;
 
-/// Compares one reading by the product, lent cells included, with the plain reading, and returns the answer.
+/// Compares one reading by the product, through C and through the package, with the plain reading, and returns the
+/// answer. Of what is lent only the two numbers may change, and those only where the sheet reads.
 pub fn check(sheet: &[u8], case: Arguments) -> u32 {
-    let due = reading(sheet);
-    let (mut tasks, mut points) = LENT;
-    let number = read_into(sheet, &mut tasks, &mut points);
-    let answered = (number, tasks, points);
-    let (due_answer, due_result) = match due {
-        Ok((n, p)) => (
-            (ACCEPTED, n, p),
-            Ok(Counts {
-                tasks: n,
-                points: p,
-            }),
-        ),
-        Err(number) => ((number, LENT.0, LENT.1), Err(Refusal(number))),
+    let mut rng = Rng::of(sheet);
+    let lent = [0; 2].map(|_| Place::filled(|| number_to_lend(&mut rng)));
+    let (due_number, due_after, due_counts) = match reading(sheet) {
+        Ok((tasks, points)) => {
+            let after = [lent[0].holding(tasks), lent[1].holding(points)];
+            (ACCEPTED, after, Ok(Counts { tasks, points }))
+        }
+        Err(number) => (number, lent, Err(Refusal(number))),
     };
-    assert_eq!(answered, due_answer, "read_into, {case}: {}", hex(sheet));
-    assert_eq!(read(sheet), due_result, "read, {case}: {}", hex(sheet));
-    number
+    for call in [interface::read as Call, read_into] {
+        let [mut tasks, mut points] = lent;
+        let number = call(sheet, tasks.lend(), points.lend());
+        let after = [tasks, points];
+        let due = (due_number, due_after);
+        assert_eq!((number, after), due, "{case}: {}", hex(sheet));
+    }
+    assert_eq!(read(sheet), due_counts, "{case}: {}", hex(sheet));
+    due_number
+}
+
+/// Any number, or one that a sheet could have.
+fn number_to_lend(rng: &mut Rng) -> u64 {
+    if rng.one_in(2) {
+        rng.next()
+    } else {
+        rng.pick(&[0, 1, 2, 3, 12, 64, 1 << 32, u64::MAX])
+    }
 }
 
 /// Like `check`, and the number is told beforehand; 0 stands for a sheet that reads.
@@ -34,16 +47,21 @@ pub fn expect(number: u32, sheet: &[u8], case: Arguments) {
     assert_eq!(check(sheet, case), number, "{case}: {}", hex(sheet));
 }
 
-/// The beginning of bytes as hexadecimal, and their number.
-pub fn hex(bytes: &[u8]) -> String {
-    const SHOWN: usize = 400;
-    let digits: String = bytes
-        .iter()
-        .take(SHOWN)
-        .map(|byte| format!("{byte:02x}"))
-        .collect();
-    let more = if bytes.len() > SHOWN { "..." } else { "" };
-    format!("{} bytes {digits}{more}", bytes.len())
+/// Bytes that are shown as their number and the beginning of them in hexadecimal.
+pub struct Hex<'a>(&'a [u8]);
+
+pub fn hex(bytes: &[u8]) -> Hex<'_> {
+    Hex(bytes)
+}
+
+impl fmt::Display for Hex<'_> {
+    fn fmt(&self, f: &mut fmt::Formatter<'_>) -> fmt::Result {
+        const SHOWN: usize = 400;
+        write!(f, "{} bytes ", self.0.len())?;
+        let mut shown = self.0.iter().take(SHOWN);
+        shown.try_for_each(|byte| write!(f, "{byte:02x}"))?;
+        f.write_str(if self.0.len() > SHOWN { "..." } else { "" })
+    }
 }
 
 /// How often each number was answered, 0 for sheets that read; and how often it was the only one to apply, or the

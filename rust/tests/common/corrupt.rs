@@ -3,6 +3,7 @@
 use super::layout::{Field, Written};
 use super::rng::Rng;
 use super::sheet::Sheet;
+use super::valid::{valid, SMALL};
 
 /// Fields of which document 01 allows every value.
 const FREE: [&str; 4] = ["work", "charge", "end cost", "distance"];
@@ -33,6 +34,16 @@ fn edges(rng: &mut Rng, sheet: &Sheet, now: u32) -> Vec<u32> {
     }
     values.extend([now + 256, 1 << rng.below(16), rng.below(n + 2) as u32]);
     values
+}
+
+/// The bytes of a small random sheet with that many of its fields, from the fewest to the most, set to other values.
+pub fn with_changed_fields(rng: &mut Rng, fewest: usize, most: usize) -> Vec<u8> {
+    let sheet = valid(rng, SMALL);
+    let mut written = sheet.written();
+    for _ in 0..rng.between(fewest, most) {
+        change_some_field(rng, &sheet, &mut written);
+    }
+    written.bytes
 }
 
 /// Sets a random field to another value, mostly one in a body and mostly so that it stays in its range, because then

@@ -1,5 +1,6 @@
 //! Sheets that are given and not drawn at random: sheet A of document 01, and plain sheets of given sizes.
 
+use super::plan::Plan;
 use super::sheet::{Door, Rule, Sheet};
 
 /// Sheet A: two tasks, three points, 102 bytes.
@@ -27,6 +28,21 @@ pub fn sheet_a() -> Sheet {
         rules: vec![],
         points: vec![0, 20, 30],
         distances: vec![0, 2, 3, 2, 0, 4, 3, 4, 0],
+    }
+}
+
+/// The plan of A, as in the document.
+pub const PLAN_OF_A: [u8; 36] = [
+    0x02, 0x00, 0x00, 0x00, 0x01, 0x00, 0x16, 0x00, 0x01, 0x00, 0x02, 0x00, 0x18, 0x00, 0x02, 0x00,
+    0x03, 0x00, 0x1c, 0x00, 0x01, 0x00, 0x00, 0x00, 0x00, 0x00, 0x01, 0x00, 0x5c, 0x00, 0x00, 0x00,
+    0x00, 0x00, 0x00, 0x00,
+];
+
+/// Sheet A with another end load.
+pub fn sheet_a_with_end_load(end_load: u16) -> Sheet {
+    Sheet {
+        end_load,
+        ..sheet_a()
     }
 }
 
@@ -161,4 +177,21 @@ pub fn largest() -> Sheet {
         rule.charge = u32::MAX;
     }
     sheet
+}
+
+/// The longest sheet in which nothing costs anything.
+pub fn free() -> Sheet {
+    let mut sheet = plain(MOST);
+    sheet.end_load = 0;
+    sheet.tasks.fill(0);
+    sheet.points.fill(0);
+    sheet.doors.iter_mut().for_each(|door| door.work = 0);
+    sheet.rules.iter_mut().for_each(|rule| rule.charge = 0);
+    sheet
+}
+
+/// A plan from start 0 by doors 0 to 11.
+pub fn first_twelve_doors(cost: u64) -> Plan {
+    let doors: Vec<u16> = (0..12).collect();
+    Plan::of(0, &doors, cost)
 }

@@ -40,6 +40,14 @@ pub fn with_faults(rng: &mut Rng, numbers: &[u32]) -> Vec<u8> {
     bytes
 }
 
+/// A sheet to which this number, from 10 to 17, applies and no other.
+pub fn with_fault(rng: &mut Rng, number: u32) -> Vec<u8> {
+    match number {
+        10 => short_with_faults(rng, &[]),
+        _ => with_faults(rng, &[number]),
+    }
+}
+
 /// A sheet of fewer than 46 bytes to which 10 and exactly these numbers, each from 11 to 13, apply: the beginning of
 /// a longer one, of any length that still shows the faults.
 pub fn short_with_faults(rng: &mut Rng, numbers: &[u32]) -> Vec<u8> {

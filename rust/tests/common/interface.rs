@@ -1,7 +1,10 @@
-//! The C interface, typed from `include/vanplan.h` once more and not from the bindings, for tests that lend by pointer.
+//! The C interface, typed from `include/vanplan.h` once more and not from the bindings, and each of its calls with lists
+//! and numbers of Rust lent by pointer.
 
 extern "C" {
-    pub fn vanplan_write_plan(
+    fn vanplan_read(sheet: *const u8, len: usize, tasks: *mut u64, points: *mut u64) -> u32;
+
+    fn vanplan_write_plan(
         n: usize,
         start: u16,
         doors: *const u16,
@@ -12,7 +15,7 @@ extern "C" {
         written: *mut usize,
     ) -> u32;
 
-    pub fn vanplan_read_plan(
+    fn vanplan_read_plan(
         n: usize,
         bytes: *const u8,
         len: usize,
@@ -22,7 +25,7 @@ extern "C" {
         cost: *mut u64,
     ) -> u32;
 
-    pub fn vanplan_validate(
+    fn vanplan_validate(
         sheet: *const u8,
         len: usize,
         plan: *const u8,
@@ -30,7 +33,7 @@ extern "C" {
         cost: *mut u64,
     ) -> u32;
 
-    pub fn vanplan_plan(
+    fn vanplan_plan(
         sheet: *const u8,
         len: usize,
         cells: *mut u64,
@@ -41,7 +44,45 @@ extern "C" {
     ) -> u32;
 }
 
-/// A pointer that no byte stands behind, for a length of 0; it is not NULL, which the header does not allow.
-pub fn to_nothing<T>() -> *mut T {
-    std::ptr::NonNull::dangling().as_ptr()
+// SAFETY, of all that follows: a pointer with a length is that of a list, each other one is that of a number, and what
+// is written through overlaps nothing, since it is borrowed for that.
+
+pub fn read(sheet: &[u8], tasks: &mut u64, points: &mut u64) -> u32 {
+    unsafe { vanplan_read(sheet.as_ptr(), sheet.len(), tasks, points) }
+}
+
+pub fn write_plan(
+    n: usize,
+    start: u16,
+    doors: &[u16],
+    cost: u64,
+    buf: &mut [u8],
+    written: &mut usize,
+) -> u32 {
+    let (ndoors, len) = (doors.len(), buf.len());
+    let (doors, buf) = (doors.as_ptr(), buf.as_mut_ptr());
+    unsafe { vanplan_write_plan(n, start, doors, ndoors, cost, buf, len, written) }
+}
+
+pub fn read_plan(
+    n: usize,
+    bytes: &[u8],
+    start: &mut u16,
+    doors: &mut [u16],
+    cost: &mut u64,
+) -> u32 {
+    let (len, ndoors) = (bytes.len(), doors.len());
+    let (bytes, doors) = (bytes.as_ptr(), doors.as_mut_ptr());
+    unsafe { vanplan_read_plan(n, bytes, len, start, doors, ndoors, cost) }
+}
+
+pub fn validate(sheet: &[u8], plan: &[u8], cost: &mut u64) -> u32 {
+    let (len, plan_len) = (sheet.len(), plan.len());
+    unsafe { vanplan_validate(sheet.as_ptr(), len, plan.as_ptr(), plan_len, cost) }
+}
+
+pub fn plan(sheet: &[u8], cells: &mut [u64], plan: &mut [u8], cost: &mut u64) -> u32 {
+    let (len, ncells, plan_len) = (sheet.len(), cells.len(), plan.len());
+    let (sheet, cells, plan) = (sheet.as_ptr(), cells.as_mut_ptr(), plan.as_mut_ptr());
+    unsafe { vanplan_plan(sheet, len, cells, ncells, plan, plan_len, cost) }
 }

@@ -5,9 +5,6 @@ use super::orders::some_order;
 use super::sheet::{Door, Rule, Sheet};
 use super::tested::{all_applying, first_applying, READING};
 
-/// The numbers that reading meets.
-pub const NUMBERS: [u32; READING.len()] = READING;
-
 /// A sheet has at least the kind, the end load and the seven contents lines.
 const HEAD: usize = 46;
 

@@ -7,6 +7,12 @@ impl Rng {
         Rng(seed)
     }
 
+    /// Other numbers for other bytes: their length and the first of them decide.
+    pub fn of(bytes: &[u8]) -> Rng {
+        let join = |seed: u64, &byte: &u8| seed.wrapping_mul(257).wrapping_add(byte.into());
+        Rng(bytes.iter().take(64).fold(bytes.len() as u64, join))
+    }
+
     pub fn next(&mut self) -> u64 {
         self.0 = self.0.wrapping_add(0x9e37_79b9_7f4a_7c15);
         let mut z = self.0;

@@ -34,6 +34,18 @@ pub const ANY: Size = Size {
     points: (1, 64),
 };
 
+/// The longest sheets, with as many pairs as are asked for.
+pub const fn longest(pairs: (usize, usize)) -> Size {
+    Size {
+        tasks: (12, 12),
+        more_doors: (52, 52),
+        starts: (16, 16),
+        pairs,
+        rules: (32, 32),
+        points: (64, 64),
+    }
+}
+
 /// Small, with something in every body that a fault may be put into.
 pub const ROOMY: Size = Size {
     tasks: (2, 6),

@@ -1,17 +1,20 @@
-//! One call of the product compared with document 01: the answer, and everything that was lent, as it is afterwards.
+//! One call of the product, through C and through the package, compared with document 01: the answer, and everything
+//! that was lent, as it is afterwards.
 
 use crate::common::check::hex;
-use crate::common::lent::Lent;
+use crate::common::interface;
+use crate::common::lent::{Lent, Place};
 use crate::common::plan::{is_laid_out, plan_len, Plan, MOST_TASKS};
+use crate::common::rng::Rng;
 use crate::common::tested::{first_applying, READING_A_PLAN, WRITING_A_PLAN};
 use std::fmt::Arguments;
 use vanplan::{read_plan, read_plan_into, write_plan, write_plan_into, Refusal, Stated, ACCEPTED};
 
-/// What stands in the lent cells before a call, and around the lent lists.
-const START: u16 = 0xa55a;
-const COST: u64 = 0xdead_beef_0bad_f00d;
-const WRITTEN: usize = 0x0123_4567_89ab_cdef;
+/// What stands around the lent lists.
 const AROUND: (u8, u16) = (0xa5, 0x5aa5);
+
+type Write = fn(usize, u16, &[u16], u64, &mut [u8], &mut usize) -> u32;
+type Read = fn(usize, &[u8], &mut u16, &mut [u16], &mut u64) -> u32;
 
 /// Both calls answer 12 for an N outside 1 to 12, and for fewer doors than N.
 fn tasks_or_doors_are_wrong(n: usize, doors: usize) -> bool {
@@ -56,52 +59,59 @@ pub fn check_write(n: usize, plan: &Plan, buf: &[u8], case: Arguments) -> u32 {
 pub fn check_write_at(shift: usize, n: usize, plan: &Plan, buf: &[u8], case: Arguments) -> u32 {
     let len = buf.len();
     let case = format_args!("writing with n {n}, {plan:?}, {len} bytes, {case}");
+    let mut rng = Rng::of(buf);
+    let lent = Place::filled(|| rng.next() as usize);
     let (due, due_written, due_buf) = match writing(n, plan, buf) {
-        Ok(after) => (ACCEPTED, plan_len(n), after),
-        Err(number) => (number, WRITTEN, buf.to_vec()),
+        Ok(after) => (ACCEPTED, lent.holding(plan_len(n)), after),
+        Err(number) => (number, lent, buf.to_vec()),
     };
-    let mut lent = Lent::shifted(shift, buf, AROUND.0);
-    let mut written = WRITTEN;
     let (start, doors, cost) = (plan.start, &plan.doors, plan.cost);
-    let number = write_plan_into(n, start, doors, cost, lent.lend(), &mut written);
-    assert_eq!((number, written), (due, due_written), "{case}");
-    assert_eq!(lent.returned(case), due_buf, "{case}");
-
+    for call in [interface::write_plan as Write, write_plan_into] {
+        let mut buf = Lent::shifted(shift, buf, AROUND.0);
+        let mut written = lent;
+        let number = call(n, start, doors, cost, buf.lend(), written.lend());
+        assert_eq!((number, written), (due, due_written), "{case}");
+        assert_eq!(buf.returned(case), due_buf, "{case}");
+    }
     let mut again = buf.to_vec();
     let answer = write_plan(n, start, doors, cost, &mut again);
     let due_answer = match due {
-        ACCEPTED => Ok(due_written),
+        ACCEPTED => Ok(plan_len(n)),
         number => Err(Refusal(number)),
     };
     assert_eq!((answer, again), (due_answer, due_buf), "{case}");
-    number
+    due
 }
 
 /// Reads bytes as a plan with a copy of the doors lent, compares the answer and all that is lent, and returns the
 /// number.
 pub fn check_read(n: usize, bytes: &[u8], doors: &[u16], case: Arguments) -> u32 {
     let case = format_args!("reading with n {n}, {bytes:?}, {case}");
-    let (due, due_plan) = match reading(n, bytes, doors.len()) {
-        Ok(plan) => (ACCEPTED, plan),
-        Err(number) => (number, Plan::of(START, doors, COST)),
+    let mut rng = Rng::of(bytes);
+    let lent = (
+        Place::filled(|| rng.u16()),
+        doors.to_vec(),
+        Place::filled(|| rng.next()),
+    );
+    let (due, due_after, due_answer) = match reading(n, bytes, doors.len()) {
+        Ok(Plan { start, doors, cost }) => {
+            let after = (lent.0.holding(start), doors, lent.2.holding(cost));
+            (ACCEPTED, after, Ok(Stated { start, cost }))
+        }
+        Err(number) => (number, lent.clone(), Err(Refusal(number))),
     };
-    let mut lent = Lent::new(doors, AROUND.1);
-    let (mut start, mut cost) = (START, COST);
-    let number = read_plan_into(n, bytes, &mut start, lent.lend(), &mut cost);
-    let plan = Plan::of(start, &lent.returned(case), cost);
-    assert_eq!((number, &plan), (due, &due_plan), "{case}");
+    for call in [interface::read_plan as Read, read_plan_into] {
+        let (mut start, _, mut cost) = lent;
+        let mut doors = Lent::new(doors, AROUND.1);
+        let number = call(n, bytes, start.lend(), doors.lend(), cost.lend());
+        let after = (start, doors.returned(case), cost);
+        assert_eq!((number, &after), (due, &due_after), "{case}");
+    }
 
     let mut again = doors.to_vec();
     let answer = read_plan(n, bytes, &mut again);
-    let due_answer = match due {
-        ACCEPTED => Ok(Stated {
-            start: due_plan.start,
-            cost: due_plan.cost,
-        }),
-        number => Err(Refusal(number)),
-    };
-    assert_eq!((answer, again), (due_answer, due_plan.doors), "{case}");
-    number
+    assert_eq!((answer, again), (due_answer, due_after.1), "{case}");
+    due
 }
 
 /// Like `check_write`, and the number is told beforehand; 0 stands for a plan that is written.

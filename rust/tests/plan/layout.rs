@@ -1,51 +1,35 @@
 //! The layout of a plan: the plan of sheet A byte by byte, every number of tasks, and values of the whole width.
 
 use super::calls::{expect_read, expect_write};
-use crate::common::plan::{head, plan_len, random_doors, Plan, MOST_TASKS};
+use crate::common::examples::PLAN_OF_A;
+use crate::common::plan::{plan_len, random_doors, Plan, MOST_TASKS};
 use crate::common::rng::Rng;
-use vanplan::{read_plan, write_plan, Stated};
-
-/// The plan of A in document 01.
-const A: [u8; 36] = [
-    0x02, 0x00, 0x00, 0x00, 0x01, 0x00, 0x16, 0x00, 0x01, 0x00, 0x02, 0x00, 0x18, 0x00, 0x02, 0x00,
-    0x03, 0x00, 0x1c, 0x00, 0x01, 0x00, 0x00, 0x00, 0x00, 0x00, 0x01, 0x00, 0x5c, 0x00, 0x00, 0x00,
-    0x00, 0x00, 0x00, 0x00,
-];
-
-fn plan_of_a() -> Plan {
-    Plan::of(0, &[0, 1], 92)
-}
+use vanplan::write_plan;
 
 #[test]
 fn the_plan_of_a() {
-    assert_eq!(plan_of_a().encode(), A, "the plan of A in the tests");
+    let plan = Plan::of(0, &[0, 1], 92);
+    assert_eq!(plan.encode(), PLAN_OF_A, "the plan of A in the tests");
     let example = include_bytes!("../../../examples/a.plan");
-    assert_eq!(example, &A, "examples/a.plan");
-    let mut buf = [0xff; 36];
-    assert_eq!(write_plan(2, 0, &[0, 1], 92, &mut buf), Ok(36));
-    assert_eq!(buf, A);
-    let mut doors = [7, 7];
-    let stated = Stated { start: 0, cost: 92 };
-    assert_eq!(read_plan(2, &A, &mut doors), Ok(stated));
-    assert_eq!(doors, [0, 1]);
-}
-
-#[test]
-fn thirty_six_bytes_suffice_for_a_and_35_do_not() {
+    assert_eq!(example, &PLAN_OF_A, "examples/a.plan");
     let case = format_args!("the plan of A");
-    expect_write(0, 2, &plan_of_a(), &[0xff; 36], case);
-    expect_write(21, 2, &plan_of_a(), &[0xff; 35], case);
-    expect_read(0, 2, &A, &[7, 7], case);
-    expect_read(30, 2, &A[..35], &[7, 7], case);
+    expect_write(0, 2, &plan, &[0xff; 36], case);
+    expect_write(21, 2, &plan, &[0xff; 35], case);
+    expect_read(0, 2, &PLAN_OF_A, &[7, 7], case);
+    expect_read(30, 2, &PLAN_OF_A[..35], &[7, 7], case);
 }
 
-/// Typed from document 01, as the head of A is above.
+/// Typed from document 01, as the head of A is.
 #[test]
 fn the_heads_of_1_and_12_tasks() {
-    let words = |list: [u16; 11]| list.map(u16::to_le_bytes).concat();
-    assert_eq!(head(1), words([2, 0, 1, 22, 1, 2, 24, 1, 3, 26, 1]));
-    assert_eq!(head(12), words([2, 0, 1, 22, 1, 2, 24, 12, 3, 48, 1]));
-    assert_eq!((plan_len(1), plan_len(12)), (34, 56));
+    for (n, len, head) in [
+        (1, 34, [2, 0, 1, 22, 1, 2, 24, 1, 3, 26, 1]),
+        (12, 56, [2, 0, 1, 22, 1, 2, 24, 12, 3, 48, 1]),
+    ] {
+        let mut buf = [0xff; 56];
+        assert_eq!(write_plan(n, 7, &[7; 12], 7, &mut buf), Ok(len));
+        assert_eq!(buf[..22], head.map(u16::to_le_bytes).concat());
+    }
 }
 
 /// Writes a plan and reads its bytes, each compared with the layout.

@@ -1,44 +1,34 @@
-//! The lent lists: nothing behind a plan is looked at or written to, doors behind it become 0, and any address will do.
+//! The lent lists: nothing behind a plan is looked at or written to, doors behind it become 0, any address will do, and
+//! so will empty lists.
 
-use super::calls::{check_write_at, expect_read};
+use super::calls::{check_write_at, expect_read, expect_write};
+use crate::common::interface;
 use crate::common::plan::{plan_len, random_doors, Plan, MOST_TASKS};
 use crate::common::rng::Rng;
 use vanplan::{read_plan, write_plan};
 
-/// The same plan with other doors behind its own, in other noise: the same bytes, and the rest of the noise stays.
+/// The same plan with other doors behind its own, in other noise: the same bytes, and the rest of the noise stays. Read
+/// with more doors lent, those behind its own become 0.
 #[test]
-fn doors_and_bytes_behind_a_written_plan() {
+fn doors_and_bytes_behind_a_plan() {
     for seed in 0..5_000 {
         let mut rng = Rng::new(seed);
         let n = rng.between(1, MOST_TASKS);
         let plan = Plan::random(&mut rng, n);
+        let case = format_args!("seed {seed}");
         for _ in 0..3 {
             let (more_doors, more_bytes) = (rng.below(20), rng.below(30));
-            let doors = [plan.doors.clone(), random_doors(&mut rng, more_doors)].concat();
+            let more_doors = random_doors(&mut rng, more_doors);
+            let longer = Plan {
+                doors: [plan.doors.clone(), more_doors].concat(),
+                ..plan
+            };
             let noise = rng.bytes(plan_len(n) + more_bytes);
-            let mut buf = noise.clone();
-            let written = write_plan(n, plan.start, &doors, plan.cost, &mut buf);
-            assert_eq!(written, Ok(plan_len(n)), "seed {seed}");
-            let (bytes, rest) = buf.split_at(plan_len(n));
-            assert_eq!(bytes, plan.encode(), "seed {seed}");
-            assert_eq!(rest, &noise[plan_len(n)..], "seed {seed}");
+            expect_write(0, n, &longer, &noise, case);
         }
-    }
-}
-
-#[test]
-fn doors_behind_a_plan_that_was_read() {
-    for seed in 0..5_000 {
-        let mut rng = Rng::new(seed);
-        let n = rng.between(1, MOST_TASKS);
-        let plan = Plan::random(&mut rng, n);
         let more = rng.below(30);
-        let mut doors = random_doors(&mut rng, n + more);
-        let answer = read_plan(n, &plan.encode(), &mut doors);
-        assert!(answer.is_ok(), "seed {seed}: {answer:?}");
-        let (own, others) = doors.split_at(n);
-        assert_eq!(own, plan.doors, "seed {seed}");
-        assert_eq!(others, vec![0; more], "seed {seed}");
+        let doors = random_doors(&mut rng, n + more);
+        expect_read(0, n, &plan.encode(), &doors, case);
     }
 }
 
@@ -76,5 +66,26 @@ fn doors_at_any_even_address() {
             assert!(answer.is_ok(), "{shift} doors further on: {answer:?}");
             assert_eq!(doors, [before, other.doors].concat());
         }
+    }
+}
+
+/// An empty list may be lent by any pointer but NULL; nothing is read or written through it.
+#[test]
+fn empty_lists() {
+    for n in 0..=MOST_TASKS + 2 {
+        let (mut start, mut doors, mut cost, mut written) = (1, [2; MOST_TASKS], 3, 4);
+        let numbers = [
+            interface::write_plan(n, 1, &doors, 3, &mut [], &mut written),
+            interface::write_plan(n, 1, &[], 3, &mut [], &mut written),
+            interface::read_plan(n, &[], &mut start, &mut doors, &mut cost),
+            interface::read_plan(n, &[], &mut start, &mut [], &mut cost),
+        ];
+        let due = match n {
+            1..=MOST_TASKS => [21, 12, 30, 12],
+            _ => [12; 4],
+        };
+        assert_eq!(numbers, due, "n {n}");
+        let after = (start, doors, cost, written);
+        assert_eq!(after, (1, [2; MOST_TASKS], 3, 4), "n {n}");
     }
 }

@@ -3,7 +3,6 @@
 #[path = "../common/mod.rs"]
 mod common;
 
-mod by_pointer;
 mod calls;
 mod damage;
 mod layout;

@@ -94,9 +94,9 @@ fn huge_numbers_of_tasks() {
     let case = format_args!("huge");
     for n in huge_numbers() {
         let mut rng = Rng::new(n as u64);
-        for doors in [0, 1, 3, 12, 13, SIZES] {
+        for doors in [0, 1, 3, 12, 13, 15, SIZES] {
             let plan = Plan::random(&mut rng, doors);
-            for len in [0, 33, 34, 56, 200] {
+            for len in [0, 33, 34, 56, 60, 200] {
                 expect_write(12, n, &plan, &rng.bytes(len), case);
             }
             for tasks in [n % 16, n % 256] {

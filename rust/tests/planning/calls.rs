@@ -1,6 +1,8 @@
-//! One planning by the product compared with what is due: the answer, and everything lent as it is afterwards.
+//! One planning by the product, through C and through the package, compared with what is due: the answer, and everything
+//! lent as it is afterwards.
 
 use crate::common::check::hex;
+use crate::common::interface;
 use crate::common::lent::Lent;
 use crate::common::plan::plan_len;
 use crate::common::rng::Rng;
@@ -66,31 +68,31 @@ pub fn needed(due: &Due) -> (usize, usize) {
     (due.cells.len(), plan_len(due.plan.doors.len()))
 }
 
+type Call = fn(&[u8], &mut [u64], &mut [u8], &mut u64) -> u32;
+
 /// Plans with this room lent, compares the answer and all that is lent, and returns the number.
 pub fn check(sheet: &[u8], due: Result<&Due, u32>, room: &Room, case: Arguments) -> u32 {
     let lengths = (room.cells.len(), room.plan.len());
     let case = format_args!("{case}, lent {lengths:?}: {}", hex(sheet));
     let before = sheet.to_vec();
-    let mut cells = Lent::new(&room.cells, AROUND.0);
-    let mut plan = Lent::new(&room.plan, AROUND.1);
-    let mut cost = Lent::new(&[room.cost], AROUND.0);
-    let number = plan_into(sheet, cells.lend(), plan.lend(), &mut cost.lend()[0]);
-    let after = Room {
-        cells: cells.returned(case),
-        plan: plan.returned(case),
-        cost: cost.returned(case)[0],
-    };
     let (due_number, due_after) = room.after(due);
-    assert_eq!(number, due_number, "{case}");
-    assert_eq!(after.cost, due_after.cost, "the cost, {case}");
-    assert_eq!(after.plan, due_after.plan, "the plan's bytes, {case}");
-    let differs = |&cell: &usize| after.cells[cell] != due_after.cells[cell];
-    if let Some(cell) = (0..room.cells.len()).find(differs) {
-        let (is, due) = (after.cells[cell], due_after.cells[cell]);
-        panic!("cell {cell} is {is}, and not {due}, {case}");
+    for call in [interface::plan as Call, plan_into] {
+        let mut cells = Lent::new(&room.cells, AROUND.0);
+        let mut plan = Lent::new(&room.plan, AROUND.1);
+        let mut cost = Lent::new(&[room.cost], AROUND.0);
+        let number = call(sheet, cells.lend(), plan.lend(), &mut cost.lend()[0]);
+        assert_eq!(number, due_number, "{case}");
+        assert_eq!(cost.returned(case), [due_after.cost], "the cost, {case}");
+        assert_eq!(plan.returned(case), due_after.plan, "the plan, {case}");
+        let cells = cells.returned(case);
+        let differs = |&cell: &usize| cells[cell] != due_after.cells[cell];
+        if let Some(cell) = (0..cells.len()).find(differs) {
+            let (is, due) = (cells[cell], due_after.cells[cell]);
+            panic!("cell {cell} is {is}, and not {due}, {case}");
+        }
+        assert_eq!(sheet, before, "the sheet, {case}");
     }
-    assert_eq!(sheet, before, "the sheet, {case}");
-    number
+    due_number
 }
 
 /// Like `check`, and the number is told beforehand; 0 stands for a sheet that is planned.

@@ -3,13 +3,13 @@
 
 use super::calls::{check, check_own_room, expect, Room};
 use super::sheets::due;
-use crate::common::corrupt::{change_some_field, other_values};
-use crate::common::faulty::{all_but_10, short_with_faults, with_faults};
+use crate::common::corrupt::{other_values, with_changed_fields};
+use crate::common::faulty::{all_but_10, with_fault, with_faults};
 use crate::common::finishing::recurse;
-use crate::common::reading::{decode, reading, NUMBERS};
+use crate::common::reading::{decode, reading};
 use crate::common::rng::Rng;
 use crate::common::tally::Times;
-use crate::common::tested::every_two;
+use crate::common::tested::{every_two, READING};
 use crate::common::valid::{valid, SMALL};
 
 /// Rooms with nothing in them, with too little, and with enough for any small sheet.
@@ -21,13 +21,10 @@ fn some_room(rng: &mut Rng) -> Room {
 
 #[test]
 fn sheets_with_one_fault() {
-    for number in NUMBERS {
+    for number in READING {
         for seed in 0..400 {
             let mut rng = Rng::new(seed);
-            let sheet = match number {
-                10 => short_with_faults(&mut rng, &[]),
-                _ => with_faults(&mut rng, &[number]),
-            };
+            let sheet = with_fault(&mut rng, number);
             let room = some_room(&mut rng);
             let case = format_args!("seed {seed}");
             expect(number, &sheet, Err(number), &room, case);
@@ -82,12 +79,8 @@ fn several_fields_changed() {
     let mut times = Times::default();
     for seed in 0..8_000 {
         let mut rng = Rng::new(seed);
-        let sheet = valid(&mut rng, SMALL);
-        let mut written = sheet.written();
-        for _ in 0..rng.between(2, 4) {
-            change_some_field(&mut rng, &sheet, &mut written);
-        }
-        check_bytes(&mut rng, &written.bytes, &mut times, seed);
+        let sheet = with_changed_fields(&mut rng, 2, 4);
+        check_bytes(&mut rng, &sheet, &mut times, seed);
     }
     times.assert_each("answered", &[0, 11, 12, 13, 14, 15, 16, 17, 20, 21], 30);
 }

@@ -1,7 +1,7 @@
 //! Sums as large as a sheet allows and as small, worked by hand; in both every round costs the same.
 
 use super::calls::{check_own_room, expect, Room};
-use crate::common::examples::{largest, plain, GREATEST, MOST};
+use crate::common::examples::{first_twelve_doors, free, largest, plain, GREATEST, MOST};
 use crate::common::finishing::recurse;
 use crate::common::plan::Plan;
 use crate::common::rng::Rng;
@@ -18,11 +18,6 @@ fn plans(sheet: &Sheet, plan: &Plan) {
     check_own_room(&bytes, Ok(&due), case);
 }
 
-fn first_twelve_doors(cost: u64) -> Plan {
-    let doors: Vec<u16> = (0..12).collect();
-    Plan::of(0, &doors, cost)
-}
-
 /// One door for each task, so that every charge falls due. Every pair is (0, 1), which the doors in turn keep.
 #[test]
 fn the_greatest_cost() {
@@ -33,12 +28,7 @@ fn the_greatest_cost() {
 
 #[test]
 fn the_least_cost() {
-    let mut sheet = plain(MOST);
-    sheet.end_load = 0;
-    sheet.tasks.fill(0);
-    sheet.points.fill(0);
-    sheet.doors.iter_mut().for_each(|door| door.work = 0);
-    sheet.rules.iter_mut().for_each(|rule| rule.charge = 0);
+    let mut sheet = free();
     plans(&sheet, &first_twelve_doors(0));
     // The last doors first: the first by number is still due, and the pair (0, 1) puts task 0 before task 1.
     sheet.doors.reverse();

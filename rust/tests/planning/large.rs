@@ -5,19 +5,7 @@ use crate::common::finishing::recurse;
 use crate::common::rng::Rng;
 use crate::common::rounds::is_allowed;
 use crate::common::sheet::Sheet;
-use crate::common::valid::{make_small, valid, Size, ANY};
-
-/// The longest sheets: twelve tasks, 64 doors, 64 points, and so many pairs.
-fn longest(pairs: (usize, usize)) -> Size {
-    Size {
-        tasks: (12, 12),
-        more_doors: (52, 52),
-        starts: (16, 16),
-        pairs,
-        rules: (32, 32),
-        points: (64, 64),
-    }
-}
+use crate::common::valid::{longest, make_small, valid, Size, ANY};
 
 /// Plans a sheet with just enough room, or for odd seeds with more, and tries it with too little.
 fn plan_sheet(rng: &mut Rng, sheet: &Sheet, seed: u64) {

@@ -13,4 +13,3 @@ mod noise;
 mod sheet_a;
 mod sheets;
 mod small;
-mod support;

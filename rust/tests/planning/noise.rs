@@ -21,19 +21,24 @@ fn rooms(rng: &mut Rng, cells: usize, plan: usize) -> Vec<Room> {
     vec![filled(0, 0), filled(1, 1), large, signed, small, any]
 }
 
+/// Where a list is not essential, its cells may hold less than any cost; they are not looked at.
 #[test]
 fn the_same_whatever_was_lent() {
-    for seed in 0..400 {
+    let mut with_other_lists = 0;
+    for seed in 0..600 {
         let mut rng = Rng::new(seed);
         let sheet = small(&mut rng);
         let (due, _) = due(&sheet).expect("a sheet that reads");
+        with_other_lists += usize::from(due.cells.contains(&None));
         let bytes = sheet.encode();
         let (cells, plan) = needed(&due);
-        let (cells, plan) = (cells + rng.below(9), plan + rng.below(9));
-        for room in rooms(&mut rng, cells, plan) {
-            expect(0, &bytes, Ok(&due), &room, format_args!("seed {seed}"));
+        for (cells, plan) in [(cells, plan), (cells + rng.below(9), plan + rng.below(9))] {
+            for room in rooms(&mut rng, cells, plan) {
+                expect(0, &bytes, Ok(&due), &room, format_args!("seed {seed}"));
+            }
         }
     }
+    assert!(with_other_lists > 200, "{with_other_lists}");
 }
 
 /// What one sheet left is lent to the next, and the second time to the same: nothing changes any more.
@@ -52,28 +57,6 @@ fn one_sheet_after_the_other_in_the_same_room() {
             (_, room) = room.after(Ok(&due));
         }
     }
-}
-
-/// A cell of a list that is not essential may hold less than any cost; it is not looked at.
-#[test]
-fn nothing_in_the_cells_of_other_lists() {
-    let mut tried = 0;
-    for seed in 0..600 {
-        let mut rng = Rng::new(seed);
-        let sheet = small(&mut rng);
-        let (due, _) = due(&sheet).expect("a sheet that reads");
-        if !due.cells.contains(&None) {
-            continue;
-        }
-        tried += 1;
-        let bytes = sheet.encode();
-        let mut room = Room::least(&mut rng, &due);
-        room.cells.fill(0);
-        expect(0, &bytes, Ok(&due), &room, format_args!("seed {seed}"));
-        room.cells.fill(u64::MAX);
-        expect(0, &bytes, Ok(&due), &room, format_args!("seed {seed}"));
-    }
-    assert!(tried > 200, "{tried}");
 }
 
 #[test]

@@ -2,17 +2,12 @@
 
 use super::calls::{check_own_room, expect, Room};
 use super::sheets::due;
-use crate::common::examples::{sheet_a, sheet_a_with_pairs, sheet_a_with_rule, sheet_a_with_tasks};
+use crate::common::examples::*;
 use crate::common::finishing::recurse;
+use crate::common::interface;
 use crate::common::plan::{plan_len, Plan};
 use crate::common::rng::Rng;
 use crate::common::sheet::Sheet;
-use vanplan::{plan_into, read, Refusal};
-
-/// The plan of A, hexadecimal, as in the document.
-const PLAN: &str =
-    "02 00 00 00 01 00 16 00 01 00 02 00 18 00 02 00 03 00 1c 00 01 00 00 00 00 00 01 00 \
-                    5c 00 00 00 00 00 00 00";
 
 /// What stands in each cell, and in each byte, before a call.
 const CELL: u64 = 0xdead_beef_0bad_f00d;
@@ -21,7 +16,7 @@ const BYTE: u8 = 0xa5;
 /// Plans with twelve cells and 36 bytes, and returns the number and all that was lent.
 fn planned(sheet: &Sheet) -> (u32, [u64; 12], [u8; 36], u64) {
     let (mut cells, mut plan, mut cost) = ([CELL; 12], [BYTE; 36], CELL);
-    let number = plan_into(&sheet.encode(), &mut cells, &mut plan, &mut cost);
+    let number = interface::plan(&sheet.encode(), &mut cells, &mut plan, &mut cost);
     (number, cells, plan, cost)
 }
 
@@ -38,20 +33,22 @@ fn refused(sheet: &Sheet, number: u32) {
     assert_eq!(planned(sheet), (number, [CELL; 12], [BYTE; 36], CELL));
 }
 
+/// The cells as worked by hand, the plan as in the document, and the enumeration of the tests.
 #[test]
 fn a_planned() {
-    let cells = plans(&sheet_a(), [0, 1], 92);
-    assert_eq!((cells[5], cells[7], cells[9]), (84, 64, 92));
+    let ends = [0, 20, 30];
+    let task_0 = [2 * 15 + 4 + 20, 4 + 20, 4 * 15 + 4 + 20];
+    let task_1 = [3 * 7 + 6 + 30, 4 * 7 + 6 + 30, 6 + 30];
+    // Door 0 first from points 0 and 1, door 1 first from point 2.
+    let both = [2 * 12 + 4 + 64, 4 + 64, 6 + 84];
+    let (number, cells, plan, cost) = planned(&sheet_a());
+    assert_eq!((number, plan, cost), (0, PLAN_OF_A, 92));
+    assert_eq!(cells[..], [ends, task_0, task_1, both].concat());
     assert_eq!(cells, [0, 20, 30, 54, 24, 84, 57, 64, 36, 92, 68, 90]);
-}
-
-#[test]
-fn the_plan_of_a_byte_by_byte() {
-    let (_, _, plan, _) = planned(&sheet_a());
-    let written: Vec<String> = plan.iter().map(|byte| format!("{byte:02x}")).collect();
-    assert_eq!(written.join(" "), PLAN);
-    let example = include_bytes!("../../../examples/a.plan");
-    assert_eq!(plan[..], example[..]);
+    let (due, ties) = due(&sheet_a()).expect("sheet A reads");
+    assert_eq!(due.plan, Plan::of(0, &[0, 1], 92));
+    assert_eq!(due.cells, cells.map(Some));
+    assert_eq!((ties.starts, ties.doors), (1, 1));
 }
 
 #[test]
@@ -76,34 +73,9 @@ fn a_with_a_rule_on_door_0() {
 
 #[test]
 fn a_with_other_end_loads() {
-    let with_end_load = |end_load| Sheet {
-        end_load,
-        ..sheet_a()
-    };
-    refused(&with_end_load(2), 16);
+    refused(&sheet_a_with_end_load(2), 16);
     // The van is empty while task 1 alone is open, so the second leg costs nothing.
-    plans(&with_end_load(3), [0, 1], 2 * 5 + 4 + 6 + 30);
-}
-
-#[test]
-fn room_for_a() {
-    let (due, _) = due(&sheet_a()).expect("sheet A reads");
-    let sheet = sheet_a().encode();
-    let mut rng = Rng::new(1);
-    for (number, cells, plan) in [
-        (0, 12, 36),
-        (20, 11, 36),
-        (21, 12, 35),
-        (20, 11, 35),
-        (20, 0, 36),
-        (21, 12, 0),
-        (20, 0, 0),
-        (0, 13, 37),
-        (0, 4_096, 4_096),
-    ] {
-        let room = Room::noise(&mut rng, cells, plan);
-        expect(number, &sheet, Ok(&due), &room, format_args!("sheet A"));
-    }
+    plans(&sheet_a_with_end_load(3), [0, 1], 2 * 5 + 4 + 6 + 30);
 }
 
 /// The number of a sheet comes before those of the room.
@@ -133,7 +105,6 @@ fn twelve_tasks_are_planned_and_thirteen_are_not() {
             expect(0, &bytes, Ok(&due), &room, case);
             check_own_room(&bytes, Ok(&due), case);
         } else {
-            assert_eq!(read(&bytes), Err(Refusal(12)), "{case}");
             expect(12, &bytes, Err(12), &room, case);
             check_own_room(&bytes, Err(12), case);
         }

@@ -1,10 +1,14 @@
-//! Small random sheets against the plain enumeration, with just enough room, too little and more.
+//! Small random sheets against the plain enumeration, with just enough room, too little and more. The recursion and the
+//! judge of the tests agree with the enumeration.
 
 use super::calls::{check, check_own_room, expect, needed, Room};
 use super::sheets::{due, small_or_refused};
+use crate::common::finishing::recurse;
+use crate::common::judging::judging_for;
 use crate::common::rng::Rng;
 use crate::common::rounds::{Due, Ties};
 use crate::common::tally::Times;
+use crate::common::valid::{valid, SMALL};
 
 /// How many sheets were planned, and how many of them had several cheapest starts, several cheapest rounds from the
 /// first of these, and lists that are not essential.
@@ -46,12 +50,20 @@ fn plan_in_rooms(rng: &mut Rng, sheet: &[u8], due: &Due, times: &mut Times, seed
 #[test]
 fn small_random_sheets() {
     let (mut met, mut times) = (Met::default(), Times::default());
-    for seed in 0..8_000 {
+    for seed in 0..8_500 {
         let mut rng = Rng::new(seed);
-        let sheet = small_or_refused(&mut rng);
+        let sheet = match seed {
+            0..8_000 => small_or_refused(&mut rng),
+            _ => valid(&mut rng, SMALL),
+        };
         let due = due(&sheet);
-        let sheet = sheet.encode();
         let case = format_args!("seed {seed}");
+        if let Ok((due, _)) = &due {
+            assert_eq!(&recurse(&sheet), due, "{case}: {sheet:?}");
+            let judged = judging_for(&sheet, &due.plan.encode());
+            assert_eq!(judged, Ok(due.plan.cost), "{case}: {sheet:?}");
+        }
+        let sheet = sheet.encode();
         match &due {
             Ok((due, ties)) => {
                 met.add(due, ties);

@@ -1,23 +1,17 @@
 //! Damaged sheets and random bytes: what reading says of them is printed, and those that still read are planned.
 
 use super::program::check;
-use crate::common::corrupt::change_some_field;
+use crate::common::corrupt::with_changed_fields;
 use crate::common::layout::KIND;
 use crate::common::rng::Rng;
 use crate::common::tally::Times;
-use crate::common::valid::{valid, SMALL};
 
 #[test]
 fn several_fields_changed() {
     let mut times = Times::default();
     for seed in 0..500 {
-        let mut rng = Rng::new(seed);
-        let sheet = valid(&mut rng, SMALL);
-        let mut written = sheet.written();
-        for _ in 0..rng.between(1, 3) {
-            change_some_field(&mut rng, &sheet, &mut written);
-        }
-        times.add(check(&written.bytes, format_args!("seed {seed}")));
+        let input = with_changed_fields(&mut Rng::new(seed), 1, 3);
+        times.add(check(&input, format_args!("seed {seed}")));
     }
     times.assert_each("printed", &[0, 11, 12, 13, 14, 15, 16, 17], 4);
 }

@@ -1,7 +1,9 @@
 //! Every figure that a line can have: costs of all lengths, and each number of a start, a door, a task and a list.
 
-use super::program::{check, due, plans};
-use crate::common::examples::{largest, plain, Entries, FEWEST, GREATEST, MOST};
+use super::program::{check, due, plans, prints};
+use crate::common::examples::{
+    first_twelve_doors, largest, plain, Entries, FEWEST, GREATEST, MOST,
+};
 use crate::common::finishing::recurse;
 use crate::common::plan::Plan;
 use crate::common::rng::Rng;
@@ -38,11 +40,6 @@ fn costing(cost: u64) -> Sheet {
     }
     assert_eq!(left, 0, "{cost} is more than can be spread");
     sheet
-}
-
-fn first_twelve_doors(cost: u64) -> Plan {
-    let doors: Vec<u16> = (0..12).collect();
-    Plan::of(0, &doors, cost)
 }
 
 /// The program plans such a sheet at this cost.
@@ -179,6 +176,38 @@ fn every_start() {
         assert_eq!(recurse(&sheet).plan, plan, "the recursion of the tests");
         plans(&sheet, &plan, format_args!("start {cheap} is cheap"));
     }
+}
+
+/// Doors 24 + i are the cheaper ones of task i, and pairs leave one order, from the last task to the first.
+#[test]
+fn twelve_steps_by_hand() {
+    let mut sheet = plain(Entries {
+        doors: 36,
+        points: 1,
+        distances: 1,
+        ..MOST
+    });
+    sheet.distances.fill(0);
+    sheet.doors[..24].iter_mut().for_each(|door| door.work = 8);
+    sheet.pairs = (1..12).map(|task| (task, task - 1)).collect();
+    let lines = "\
+cost 87
+start 0
+door 35 task 11 open 4095
+door 34 task 10 open 2047
+door 33 task 9 open 1023
+door 32 task 8 open 511
+door 31 task 7 open 255
+door 30 task 6 open 127
+door 29 task 5 open 63
+door 28 task 4 open 31
+door 27 task 3 open 15
+door 26 task 2 open 7
+door 25 task 1 open 3
+door 24 task 0 open 1
+";
+    assert_eq!(due(&sheet.encode()), (0, lines.to_string()));
+    prints(lines, &sheet.encode(), format_args!("twelve steps"));
 }
 
 /// Each task is done last once, and is then the only one open.

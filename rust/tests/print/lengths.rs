@@ -31,7 +31,6 @@ fn padded(sheet: &[u8], len: usize) -> Vec<u8> {
 
 #[test]
 fn no_input() {
-    refuses(10, &[], format_args!("no bytes"));
     let output = end(start(Stdio::null()));
     assert_printed(&output, "refused 10\n", format_args!("/dev/null"));
 }
@@ -83,7 +82,9 @@ fn the_longest_sheet() {
 fn long_lengths(sheet: &[u8]) -> Vec<usize> {
     let wrapped = 65_536 + sheet.len();
     let mut lengths: Vec<usize> = (9_636..=9_642).collect();
-    lengths.extend([19_277, 65_535, 65_536, 65_537, wrapped, 131_072, 1_000_000]);
+    lengths.extend([
+        9_647, 19_277, 65_535, 65_536, 65_537, wrapped, 131_072, 1_000_000,
+    ]);
     lengths
 }
 

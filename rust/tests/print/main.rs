@@ -16,5 +16,4 @@ mod program;
 mod refusals;
 mod sheet_a;
 mod small;
-mod support;
 mod unreadable;

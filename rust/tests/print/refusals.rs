@@ -2,10 +2,11 @@
 //! where several apply.
 
 use super::program::{check, refuses};
-use crate::common::examples::{plain, sheet_a, Entries, FEWEST, MOST};
-use crate::common::faulty::{all_but_10, can_come_together, short_with_faults, with_faults};
+use crate::common::examples::{plain, sheet_a, Entries, FEWEST};
+use crate::common::faulty::{
+    all_but_10, can_come_together, short_with_faults, with_fault, with_faults,
+};
 use crate::common::layout::{body_number, entries, offset, KIND};
-use crate::common::printing::sheet_to_plan;
 use crate::common::reading::faults;
 use crate::common::rng::Rng;
 use crate::common::sheet::Sheet;
@@ -16,11 +17,7 @@ use crate::common::valid::{valid, Size, ANY};
 fn each_number_alone() {
     for number in READING {
         for seed in 0..25 {
-            let mut rng = Rng::new(seed);
-            let input = match number {
-                10 => short_with_faults(&mut rng, &[]),
-                _ => with_faults(&mut rng, &[number]),
-            };
+            let input = with_fault(&mut Rng::new(seed), number);
             let case = format_args!("seed {seed}");
             assert_eq!(faults(&input), [number], "{case}");
             refuses(number, &input, case);
@@ -73,11 +70,28 @@ fn too_few_cells() {
     for seed in 0..30 {
         let sheet = valid(&mut Rng::new(seed), TOO_LARGE).encode();
         let case = format_args!("seed {seed}");
-        assert_eq!(sheet_to_plan(&sheet), Err(20), "{case}");
-        refuses(20, &sheet, case);
+        assert_eq!(check(&sheet, case), 20, "{case}");
     }
-    // As few entries of every other body as there can be.
-    for (tasks, points) in [(7, 33), (8, 17), (9, 9), (10, 5), (11, 3), (12, 2)] {
+}
+
+/// 2^N times P is at most 4,096 up to six tasks. As few entries of every other body as there can be.
+#[test]
+fn as_many_cells_as_there_are_and_more() {
+    for (number, tasks, points) in [
+        (0, 1, 64),
+        (0, 5, 64),
+        (0, 6, 64),
+        (0, 7, 32),
+        (20, 7, 33),
+        (20, 8, 17),
+        (20, 9, 9),
+        (20, 10, 5),
+        (0, 11, 2),
+        (20, 11, 3),
+        (0, 12, 1),
+        (20, 12, 2),
+        (20, 12, 64),
+    ] {
         let sheet = plain(Entries {
             tasks,
             doors: tasks,
@@ -86,7 +100,7 @@ fn too_few_cells() {
             ..FEWEST
         });
         let case = format_args!("{tasks} tasks, {points} points");
-        refuses(20, &sheet.encode(), case);
+        assert_eq!(check(&sheet.encode(), case), number, "{case}");
     }
 }
 
@@ -170,17 +184,4 @@ fn one_field_of_sheet_a() {
         field.put(&mut input, value);
         refuses(number, &input, format_args!("{field} set to {value}"));
     }
-}
-
-/// A plan of twelve steps has 56 bytes, and there is room for it: 21 is not printed for the longest plans that need
-/// no more than 4,096 cells.
-#[test]
-fn no_plan_is_too_long() {
-    let sheet = plain(Entries {
-        points: 1,
-        distances: 1,
-        ..MOST
-    });
-    let number = check(&sheet.encode(), format_args!("twelve tasks"));
-    assert_eq!(number, 0);
 }

@@ -1,9 +1,8 @@
 //! Sheet A of document 01 and its neighbours, with the lines and numbers that the document gives.
 
-use super::program::{assert_printed, check, end, prints, refuses, start};
-use crate::common::examples::{sheet_a, sheet_a_with_pairs, sheet_a_with_rule, sheet_a_with_tasks};
+use super::program::{check, due, prints, refuses};
+use crate::common::examples::*;
 use crate::common::sheet::Sheet;
-use std::fs::File;
 
 /// For A it prints exactly these lines.
 const LINES: &str = "\
@@ -25,8 +24,11 @@ door 1 task 1 open 3
 door 0 task 0 open 1
 ";
 
+/// These lines are printed, and the tests hold them to be due.
 fn prints_for(sheet: &Sheet, lines: &str) {
-    prints(lines, &sheet.encode(), format_args!("{sheet:?}"));
+    let input = sheet.encode();
+    assert_eq!(due(&input), (0, lines.to_string()), "{sheet:?}");
+    prints(lines, &input, format_args!("{sheet:?}"));
 }
 
 fn refuses_for(sheet: &Sheet, number: u32) {
@@ -34,17 +36,8 @@ fn refuses_for(sheet: &Sheet, number: u32) {
 }
 
 #[test]
-fn a_byte_by_byte() {
+fn a_printed() {
     prints_for(&sheet_a(), LINES);
-    let bytes = b"cost 92\x0astart 0\x0adoor 0 task 0 open 3\x0adoor 1 task 1 open 2\x0a";
-    assert_eq!(LINES.as_bytes(), bytes);
-}
-
-#[test]
-fn the_example_from_its_file() {
-    let example = concat!(env!("CARGO_MANIFEST_DIR"), "/../examples/a.sheet");
-    let file = File::open(example).expect("the example can be read");
-    assert_printed(&end(start(file)), LINES, format_args!("{example}"));
 }
 
 #[test]
@@ -67,14 +60,10 @@ fn a_with_a_rule_on_door_0() {
 
 #[test]
 fn a_with_other_end_loads() {
-    let with_end_load = |end_load| Sheet {
-        end_load,
-        ..sheet_a()
-    };
-    refuses_for(&with_end_load(2), 16);
-    refuses_for(&with_end_load(0), 16);
+    refuses_for(&sheet_a_with_end_load(2), 16);
+    refuses_for(&sheet_a_with_end_load(0), 16);
     // The van is empty while task 1 alone is open, so the second leg costs nothing.
-    prints_for(&with_end_load(3), &doors_0_1(2 * 5 + 4 + 6 + 30));
+    prints_for(&sheet_a_with_end_load(3), &doors_0_1(2 * 5 + 4 + 6 + 30));
 }
 
 /// From point 1 the cost is 68 and from point 2 it is 90: the start's number in body 3 is printed, and not its point.
@@ -108,14 +97,6 @@ fn a_with_its_doors_the_other_way_round() {
     sheet.doors.reverse();
     let lines = "cost 92\nstart 0\ndoor 1 task 0 open 3\ndoor 0 task 1 open 2\n";
     prints_for(&sheet, lines);
-}
-
-#[test]
-fn a_cut_short() {
-    let sheet = sheet_a().encode();
-    for (number, len) in [(10, 0), (10, 1), (10, 45), (13, 46), (13, 101)] {
-        refuses(number, &sheet[..len], format_args!("{len} bytes of A"));
-    }
 }
 
 /// Each new task has a door from point 0 to point 2 with work 1. There are three points, so ten tasks need 3,072 cells,

@@ -6,10 +6,10 @@
 //! 127 combinations without 10, and 8 with it.
 
 use crate::common::check::Tally;
-use crate::common::faulty::{all_but_10, can_come_together, short_with_faults, with_faults};
+use crate::common::faulty::{all_but_10, short_with_faults, with_faults};
 use crate::common::reading::faults;
 use crate::common::rng::Rng;
-use crate::common::tested::{all_but_the_last, every_two, first_applying, in_order, READING};
+use crate::common::tested::{all_but_the_last, first_applying, in_order, READING};
 
 /// Every set of these numbers, the empty one too, each in their order.
 fn sets(numbers: &[u32]) -> Vec<Vec<u32>> {
@@ -40,7 +40,11 @@ fn every_set_of_faults_from_11_on() {
     assert_eq!(sets.len(), 128);
     let mut tally = Tally::default();
     for set in sets {
-        let seeds = if set.len() < 2 { 2_000 } else { 100 };
+        let seeds = match set.len() {
+            0 | 1 => 2_000,
+            2 => 1_100,
+            _ => 100,
+        };
         for seed in 0..seeds {
             let sheet = with_faults(&mut Rng::new(seed), &set);
             check_set(&mut tally, &sheet, &set, seed);
@@ -48,7 +52,7 @@ fn every_set_of_faults_from_11_on() {
     }
     tally.assert_met(&[0, 11, 12, 13, 14, 15, 16, 17], 2_000);
     tally.assert_alone(&[11, 12, 13, 14, 15, 16, 17], 2_000);
-    tally.assert_with_later(all_but_the_last(&numbers), 100);
+    tally.assert_with_later(all_but_the_last(&numbers), 1_100);
 }
 
 #[test]
@@ -58,32 +62,13 @@ fn every_set_of_faults_of_a_sheet_too_short() {
     let mut tally = Tally::default();
     for set in sets {
         let due = in_order(&READING, &[&[10], &set[..]].concat());
-        for seed in 0..1_000 {
+        let seeds = if set.len() == 1 { 2_000 } else { 1_000 };
+        for seed in 0..seeds {
             let sheet = short_with_faults(&mut Rng::new(seed), &set);
             check_set(&mut tally, &sheet, &due, seed);
         }
     }
-    tally.assert_met(&[10], 8_000);
+    tally.assert_met(&[10], 11_000);
     tally.assert_alone(&[10], 1_000);
-    tally.assert_with_later(&[10], 7_000);
-}
-
-#[test]
-fn every_pair_of_faults_that_can_exist() {
-    let mut pairs = every_two(&READING);
-    pairs.retain(|&(earlier, later)| can_come_together(earlier, later));
-    // Of the 28 pairs of the numbers 10 to 17 the four of 10 with 14 to 17 do not exist.
-    assert_eq!(pairs.len(), 24, "{pairs:?}");
-    for (earlier, later) in pairs {
-        let mut tally = Tally::default();
-        for seed in 1_000..2_000 {
-            let mut rng = Rng::new(seed);
-            let sheet = match (earlier, later) {
-                (10, other) | (other, 10) => short_with_faults(&mut rng, &[other]),
-                _ => with_faults(&mut rng, &[earlier, later]),
-            };
-            check_set(&mut tally, &sheet, &[earlier, later], seed);
-        }
-        tally.assert_with_later(&[earlier], 1_000);
-    }
+    tally.assert_with_later(&[10], 10_000);
 }

@@ -1,7 +1,7 @@
 //! Sheets that read, with one field set to another value, and with several.
 
 use crate::common::check::Tally;
-use crate::common::corrupt::{change_some_field, other_values};
+use crate::common::corrupt::{other_values, with_changed_fields};
 use crate::common::faulty::all_but_10;
 use crate::common::rng::Rng;
 use crate::common::tested::{all_but_the_last, in_order, READING};
@@ -67,13 +67,8 @@ fn one_field_of_a_sheet_of_any_size() {
 fn two_to_five_fields_at_once() {
     let mut tally = Tally::default();
     for seed in 0..30_000 {
-        let mut rng = Rng::new(seed);
-        let sheet = valid(&mut rng, SMALL);
-        let mut written = sheet.written();
-        for _ in 0..rng.between(2, 5) {
-            change_some_field(&mut rng, &sheet, &mut written);
-        }
-        tally.check_company(&written.bytes, format_args!("seed {seed}"));
+        let sheet = with_changed_fields(&mut Rng::new(seed), 2, 5);
+        tally.check_company(&sheet, format_args!("seed {seed}"));
     }
     tally.assert_met(&[0, 11, 12, 13, 14, 15, 16, 17], 100);
     tally.assert_alone(&[11, 13, 14, 15, 16, 17], 20);

@@ -44,6 +44,24 @@ fn the_shortest_and_the_longest_sheet_are_read() {
 }
 
 #[test]
+fn every_number_of_tasks_and_points_is_returned() {
+    for (tasks, points) in (2..=12).flat_map(|n| (1..=64).map(move |p| (n, p))) {
+        let sheet = plain(Entries {
+            tasks,
+            doors: 12,
+            points,
+            distances: points * points,
+            ..MIDDLE
+        })
+        .encode();
+        let case = format_args!("{tasks} tasks, {points} points");
+        expect(0, &sheet, case);
+        let (tasks, points) = (tasks as u64, points as u64);
+        assert_eq!(read(&sheet), Ok(Counts { tasks, points }), "{case}");
+    }
+}
+
+#[test]
 fn each_number_of_entries_within_the_table_is_read_and_no_other() {
     for (body, fewest, most) in [
         (1, 1, 12),

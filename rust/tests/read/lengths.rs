@@ -79,7 +79,6 @@ fn more_than_65535_bytes() {
 }
 
 #[test]
-#[cfg(target_pointer_width = "64")]
 fn a_length_that_is_right_in_its_low_32_bits() {
     let sheet = sheet_a().encode();
     lend_long((1 << 32) + sheet.len(), |long: &mut [u8]| {

@@ -1,10 +1,28 @@
-//! Random bytes, from none of them right to all but the entries, so that each depth of the reading is met.
+//! Random sheets that read, and random bytes, from none of them right to all but the entries, so that each depth of the
+//! reading is met.
 
-use crate::common::check::Tally;
+use crate::common::check::{expect, Tally};
 use crate::common::layout::{body_number, entries, offset, HEAD, KIND};
+use crate::common::reading::decode;
 use crate::common::rng::Rng;
 use crate::common::sheet::{Door, Rule, Sheet};
 use crate::common::tested::{all_but_the_last, in_order, READING};
+use crate::common::valid::{valid, ANY, SMALL};
+
+#[test]
+fn random_sheets_that_read() {
+    for seed in 0..2_000 {
+        let mut rng = Rng::new(seed);
+        let sheet = valid(&mut rng, if seed % 2 == 0 { SMALL } else { ANY });
+        let bytes = sheet.encode();
+        expect(0, &bytes, format_args!("seed {seed}"));
+        assert_eq!(
+            decode(&bytes),
+            sheet,
+            "the decoder of the tests, seed {seed}"
+        );
+    }
+}
 
 #[test]
 fn random_bytes_of_many_lengths() {

@@ -10,18 +10,13 @@ use super::plans::with_plan_faults;
 use crate::common::judging::plan_faults;
 use crate::common::rng::Rng;
 use crate::common::tally::Times;
-use crate::common::tested::{all_applying, every_two, first_applying, JUDGING};
+use crate::common::tested::{all_applying, first_applying, JUDGING};
 
 /// Every set of the numbers that can apply at once, each in the order in which they are tested.
 fn sets() -> Vec<Vec<u32>> {
     let all = (0..32).map(|set| all_applying(&JUDGING, |number| set >> (number - 30) & 1 == 1));
     let exists = |set: &Vec<u32>| set.contains(&34) || !set.contains(&31);
     all.filter(exists).collect()
-}
-
-/// The number that is answered where these apply.
-fn first(set: &[u32]) -> Option<u32> {
-    first_applying(&JUDGING, |number| set.contains(&number))
 }
 
 #[test]
@@ -35,16 +30,7 @@ fn every_set_of_numbers() {
             assert_eq!(plan_faults(&sheet, &plan), set, "{case}");
             times.add(check(&sheet.encode(), &plan, case));
         }
-        times.assert_each("answered", &[first(&set).unwrap_or(0)], 400);
-    }
-}
-
-#[test]
-fn every_pair_of_numbers_is_in_some_set() {
-    let pairs = every_two(&JUDGING);
-    assert_eq!(pairs.len(), 10);
-    for (earlier, later) in pairs {
-        let both = |set: &Vec<u32>| first(set) == Some(earlier) && set.contains(&later);
-        assert!(sets().iter().any(both), "{earlier} and {later}");
+        let first = first_applying(&JUDGING, |number| set.contains(&number));
+        times.assert_each("answered", &[first.unwrap_or(0)], 400);
     }
 }

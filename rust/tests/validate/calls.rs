@@ -1,14 +1,18 @@
-//! One validation by the product compared with the plain judge, the lent cell included.
+//! One validation by the product, through C and through the package, compared with the plain judge, the lent number
+//! included.
 
 use crate::common::check::hex;
+use crate::common::interface;
 use crate::common::judging::{judging, judging_for};
+use crate::common::lent::Place;
+use crate::common::plan::Plan;
+use crate::common::rng::Rng;
 use crate::common::sheet::Sheet;
 use crate::common::tally::Times;
 use std::fmt::Arguments;
 use vanplan::{validate, validate_into, Refusal, ACCEPTED};
 
-/// What stands in the lent cell before a call: no cost, in either half.
-const LENT: u64 = 0xdead_beef_0bad_f00d;
+type Call = fn(&[u8], &[u8], &mut u64) -> u32;
 
 /// Compares one validation by the product with the plain judge, and returns the number.
 pub fn check(sheet: &[u8], plan: &[u8], case: Arguments) -> u32 {
@@ -25,15 +29,29 @@ pub fn expect(number: u32, sheet: &[u8], plan: &[u8], case: Arguments) {
     assert_eq!(answer, number, "{case}: {}, {}", hex(sheet), hex(plan));
 }
 
+/// The same through the calls that are lent the cost.
 fn compare(sheet: &[u8], plan: &[u8], due: Result<u64, u32>, case: Arguments) -> u32 {
-    let mut cost = LENT;
-    let number = validate_into(sheet, plan, &mut cost);
+    let mut rng = Rng::of(plan);
+    let lent = Place::filled(|| rng.next());
     let due = match due {
-        Ok(cost) => (ACCEPTED, cost),
-        Err(number) => (number, LENT),
+        Ok(cost) => (ACCEPTED, lent.holding(cost)),
+        Err(number) => (number, lent),
     };
-    assert_eq!((number, cost), due, "{case}: {}, {}", hex(sheet), hex(plan));
-    number
+    for call in [interface::validate as Call, validate_into] {
+        let mut cost = lent;
+        let number = call(sheet, plan, cost.lend());
+        assert_eq!((number, cost), due, "{case}: {}, {}", hex(sheet), hex(plan));
+    }
+    due.0
+}
+
+/// The doors cost that: it is accepted as the stated cost, and the costs beside it are refused.
+pub fn expect_cost(sheet: &Sheet, start: u16, doors: &[u16], cost: u64) {
+    let bytes = sheet.encode();
+    for (number, cost) in [(0, cost), (34, cost + 1), (34, cost - 1)] {
+        let plan = Plan::of(start, doors, cost);
+        expect(number, &bytes, &plan.encode(), format_args!("{plan:?}"));
+    }
 }
 
 /// A sheet that reads, for many plans: it is written as bytes once, and tallies the numbers of its plans.

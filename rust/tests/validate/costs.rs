@@ -1,7 +1,6 @@
 //! Costs worked by hand on a sheet in which every number that a cost is made of is different.
 
-use super::calls::expect;
-use crate::common::plan::Plan;
+use super::calls::expect_cost;
 use crate::common::sheet::{Door, Rule, Sheet};
 
 /// Three tasks, two doors for task 0, two starts. Doors 0 to 2 leave from other points than they are reached at, and no
@@ -28,14 +27,6 @@ fn sheet() -> Sheet {
         rules: vec![],
         points: vec![16_000_000, 32_000_000, 64_000_000],
         distances: vec![1, 2, 3, 5, 7, 11, 13, 17, 19],
-    }
-}
-
-fn costs(sheet: &Sheet, start: u16, doors: &[u16], cost: u64) {
-    let bytes = sheet.encode();
-    for (number, cost) in [(0, cost), (34, cost + 1), (34, cost - 1)] {
-        let plan = Plan::of(start, doors, cost);
-        expect(number, &bytes, &plan.encode(), format_args!("{plan:?}"));
     }
 }
 
@@ -79,7 +70,7 @@ fn legs_work_and_end_costs() {
             64_000_000,
         ),
     ] {
-        costs(&sheet(), start, &doors, legs + work + end_cost);
+        expect_cost(&sheet(), start, &doors, legs + work + end_cost);
     }
 }
 
@@ -115,7 +106,7 @@ fn every_charge_of_a_door_counts() {
     for rules in [[applying, not_applying], [not_applying, applying]] {
         let rules = rules.concat();
         let sheet = Sheet { rules, ..sheet() };
-        costs(&sheet, 0, &[0, 1, 2], WITHOUT_CHARGES + charges);
+        expect_cost(&sheet, 0, &[0, 1, 2], WITHOUT_CHARGES + charges);
     }
 }
 
@@ -127,6 +118,6 @@ fn one_task_of_one_door() {
         ..sheet()
     };
     // The load is 0, and the van leaves from point 1.
-    costs(&sheet, 0, &[0], 1_000_000 + 32_000_000);
-    costs(&sheet, 1, &[0], 1_000_000 + 32_000_000);
+    expect_cost(&sheet, 0, &[0], 1_000_000 + 32_000_000);
+    expect_cost(&sheet, 1, &[0], 1_000_000 + 32_000_000);
 }

@@ -2,7 +2,7 @@
 
 use super::calls::{expect, Judged};
 use super::plans::{solution, with_its_cost};
-use crate::common::examples::{largest, plain, Entries, GREATEST, MOST};
+use crate::common::examples::{free, largest, plain, Entries, GREATEST, MOST};
 use crate::common::judging::cost;
 use crate::common::plan::Plan;
 use crate::common::rng::Rng;
@@ -64,12 +64,7 @@ fn the_greatest_least_count() {
 
 #[test]
 fn the_least_cost() {
-    let mut sheet = plain(MOST);
-    sheet.end_load = 0;
-    sheet.tasks.fill(0);
-    sheet.points.fill(0);
-    sheet.doors.iter_mut().for_each(|door| door.work = 0);
-    sheet.rules.iter_mut().for_each(|rule| rule.charge = 0);
+    let mut sheet = free();
     costs(&sheet, &in_sheet_order(&sheet), 0);
     sheet.distances.fill(0);
     (sheet.end_load, sheet.tasks) = (u16::MAX, vec![i16::MAX; 12]);

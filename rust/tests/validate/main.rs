@@ -14,5 +14,4 @@ mod plans;
 mod random;
 mod refused_sheets;
 mod sheet_a;
-mod support;
 mod values;

@@ -1,12 +1,12 @@
 //! Random sheets of any size with random plans: solutions, plans near them, and random bytes for either.
 
-use super::calls::{check, Judged};
+use super::calls::{check, expect, Judged};
 use super::plans::{other_cost, solution, state_cost, unknown, with_its_cost};
 use crate::common::plan::{head, plan_len, Plan, HEAD};
 use crate::common::rng::Rng;
 use crate::common::sheet::Sheet;
 use crate::common::tally::Times;
-use crate::common::valid::{valid, Size, ANY, SMALL};
+use crate::common::valid::{longest, valid, Size, ANY, SMALL};
 
 /// Another plan near this one: a step, two steps, the start or the cost are others.
 fn neighbour(rng: &mut Rng, sheet: &Sheet, plan: &Plan) -> Plan {
@@ -56,18 +56,10 @@ fn solutions_and_their_neighbours() {
 /// Many solutions of the longest sheets, with every pair, rule and door there can be.
 #[test]
 fn solutions_of_the_longest_sheets() {
-    let longest = Size {
-        tasks: (12, 12),
-        more_doors: (52, 52),
-        starts: (16, 16),
-        pairs: (1, 32),
-        rules: (32, 32),
-        points: (64, 64),
-    };
     let mut times = Times::default();
     for seed in 0..60 {
         let mut rng = Rng::new(seed);
-        let mut sheet = valid(&mut rng, longest);
+        let mut sheet = valid(&mut rng, longest((1, 32)));
         // Least counts that are met at about every second step.
         for rule in &mut sheet.rules {
             rule.least = rng.between(1, 5) as u16;
@@ -100,6 +92,54 @@ fn random_doors_of_the_sheet() {
         }
     }
     times.assert_each("answered", &[0, 32, 33], 1_000);
+}
+
+/// "A solution is a plan whose start and doors are in the sheet and whose tasks, as driven, are an order of the full
+/// list that keeps every pair."
+fn is_solution(sheet: &Sheet, plan: &Plan) -> bool {
+    let task = |&door: &u16| sheet.doors.get(usize::from(door)).map(|door| door.task);
+    let Some(driven) = plan.doors.iter().map(task).collect::<Option<Vec<u16>>>() else {
+        return false;
+    };
+    let times = |task: u16| driven.iter().filter(|&&t| t == task).count();
+    let place = |task: u16| driven.iter().position(|&t| t == task);
+    usize::from(plan.start) < sheet.starts.len()
+        && (0..sheet.tasks.len() as u16).all(|task| times(task) == 1)
+        && sheet
+            .pairs
+            .iter()
+            .all(|&(sender, receiver)| place(sender) < place(receiver))
+}
+
+/// A plan with random numbers that are mostly in the sheet, and its cost if it has one.
+fn random_plan(rng: &mut Rng, sheet: &Sheet) -> Plan {
+    let beyond = usize::from(rng.one_in(5));
+    let doors: Vec<u16> = (0..sheet.tasks.len())
+        .map(|_| rng.below(sheet.doors.len() + beyond) as u16)
+        .collect();
+    let start = rng.below(sheet.starts.len() + beyond) as u16;
+    with_its_cost(sheet, start, &doors)
+}
+
+/// A plan that states its cost is accepted exactly if it is a solution, and with another cost no plan is.
+#[test]
+fn solutions_and_nothing_else() {
+    let mut times = [0; 2];
+    for seed in 0..40_000 {
+        let mut rng = Rng::new(seed);
+        let sheet = valid(&mut rng, SMALL);
+        let bytes = sheet.encode();
+        let mut plan = random_plan(&mut rng, &sheet);
+        let case = format_args!("seed {seed}");
+        let number = check(&bytes, &plan.encode(), case);
+        let accepted = number == 0;
+        assert_eq!(accepted, is_solution(&sheet, &plan), "{case}: {plan:?}");
+        times[usize::from(accepted)] += 1;
+        plan.cost = other_cost(&mut rng, plan.cost);
+        let due = if accepted { 34 } else { number };
+        expect(due, &bytes, &plan.encode(), case);
+    }
+    assert!(times.iter().all(|&times| times > 2_000), "{times:?}");
 }
 
 /// Random bytes for the plan: alone, or behind the head that is due.

@@ -3,12 +3,12 @@
 use super::calls::expect;
 use super::plans::{damage_layout, other_cost, solution, unknown};
 use crate::common::examples::{sheet_a, sheet_a_with_pairs, sheet_a_with_rule};
-use crate::common::faulty::{all_but_10, short_with_faults, with_faults};
+use crate::common::faulty::{all_but_10, with_fault, with_faults};
 use crate::common::plan::Plan;
-use crate::common::reading::{decode, NUMBERS};
+use crate::common::reading::decode;
 use crate::common::rng::Rng;
 use crate::common::sheet::{Door, Sheet};
-use crate::common::tested::every_two;
+use crate::common::tested::{every_two, READING};
 
 /// As good a plan as the sheet allows. Wrong kinds and loads below zero leave solutions; otherwise the first door of
 /// each task in turn will do.
@@ -47,13 +47,10 @@ fn plans(rng: &mut Rng, good: &Plan, sheet: &[u8]) -> Vec<Vec<u8>> {
 
 #[test]
 fn random_sheets_with_one_fault() {
-    for number in NUMBERS {
+    for number in READING {
         for seed in 0..300 {
             let mut rng = Rng::new(seed);
-            let sheet = match number {
-                10 => short_with_faults(&mut rng, &[]),
-                _ => with_faults(&mut rng, &[number]),
-            };
+            let sheet = with_fault(&mut rng, number);
             let good = good_plan(&mut rng, number, &sheet);
             for plan in plans(&mut rng, &good, &sheet) {
                 expect(number, &sheet, &plan, format_args!("seed {seed}"));
