@@ -1,25 +1,15 @@
 -- Door after door to the cheapest completion: what is left after the next door, and that nothing is left at the end. Assumes nothing.
-use mathlib.Core.Path.{_≡_, sym, ap, _∙_, subst}
-use mathlib.Core.Logic.{_≢_}
-use mathlib.Core.Bool.{true}
-use mathlib.Core.List.{List, [], _∷_}
-use Prim.Native.Nat.{ℕ, _+_, _^_, _≤_, _<_}
-use native.Mathlib.Nat.{mul-le-mul-right}
-use native.Mathlib.Omega.{arith}
-use Rattle.model.specs.TaskList.{without}
+use Rattle.model.proofs.Basics.{_≡_, sym, ap, _∙_, subst, _≢_, true, List, [], _∷_, ℕ, _+_, _^_, _≤_, _<_, mul-le-mul-right, arith}
+use Rattle.model.specs.{without, essential, costToGo, cheapestCompletion, noDoors, withDoor, withDoors, decode, InRange}
 use Rattle.model.specs.Sheet.{Sheet}
-use Rattle.model.specs.Orders.{essential}
-use Rattle.model.specs.Plans.{costToGo, cheapestCompletion}
-use Rattle.model.specs.PlanInHand.{PlanInHand, noDoors, withDoor, withDoors}
-use Rattle.model.specs.SheetLayout.{decode}
-use Rattle.model.specs.Passing.{InRange, Plannable}
-use Rattle.model.proofs.Completions.{completions-none}
-use Rattle.model.proofs.FirstTask.{allow-without}
-use Rattle.model.proofs.Driving.{FirstDoor, first-door}
+use Rattle.model.specs.PlanInHand.{PlanInHand}
+use Rattle.model.specs.{Plannable}
+use Rattle.model.proofs.Theory.Completions.{completions-none}
+use Rattle.model.proofs.Theory.FirstTask.{allow-without}
 use Rattle.view.specs.declared.View.{View}
-use Rattle.table.proofs.Bellman.{essential-size, without-lt}
+use Rattle.table.proofs.Bellman.{without-lt}
 use Rattle.complete.specs.Completed.{bestDoors, nextDoor, completed, Completable}
-use Rattle.complete.proofs.NextDoor.{NextIs}
+use Rattle.complete.proofs.NextDoor.{NextIs, chosen-next}
 use Rattle.complete.proofs.Choosing.{is-next, is-essential}
 
 -- with nothing open no door is left
@@ -34,13 +24,7 @@ best-next n = rw (n .begins, n .goes-on)
 
 -- where something is open there is a next door
 next-is : (S : Sheet) → Plannable S → (K p : ℕ) → K < 2 ^ S .tasks → essential S K ≡ true → NextIs S K p (nextDoor S K p)
-next-is S G K p below ess = subst (NextIs S K p) (sym (is-next next)) next
-  where
-    chosen : FirstDoor S G K p below (essential-size S K below ess .0) (essential-size S K below ess .1)
-    chosen = first-door S G K p below (essential-size S K below ess .0) (essential-size S K below ess .1)
-
-    next : NextIs S K p (chosen .door)
-    next = record { rest = chosen .rest; in-sheet = chosen .in-sheet; can = chosen .can; begins = chosen .begins; goes-on = chosen .goes-on }
+next-is S G K p below ess = let next = chosen-next S G K p below ess in subst (NextIs S K p) (sym (is-next next)) next
 
 -- what the loop keeps: the list that is left can be completed, and the plan with the doors left to add is the one asked for
 pub record Towards (b : List ℕ) (v : View) (K p : ℕ) (cells : List ℕ) (x : PlanInHand) (left at : ℕ) : Type 0 where
@@ -56,7 +40,7 @@ module _ {b : List ℕ} {v : View} {K p : ℕ} {cells : List ℕ} {x : PlanInHan
   -- d is the door that the code finds
   module _ {d : ℕ} (some : left ≢ 0) (e : d ≡ nextDoor (decode b) left at) where
     next : NextIs (decode b) left at d
-    next = rw e (next-is (decode b) (t .open-still .sheet .plannable) left at (t .open-still .list) (is-essential (decode b) left (t .open-still .allowed) some))
+    next = let C = t .open-still in rw e (next-is (decode b) (C .sheet .plannable) left at (C .list) (is-essential (decode b) left (C .allowed) some))
 
     pub door-in : d < decode b .doors
     door-in = next .in-sheet
@@ -65,7 +49,8 @@ module _ {b : List ℕ} {v : View} {K p : ℕ} {cells : List ℕ} {x : PlanInHan
       pub fewer-left : without left task < left
       fewer-left = rw ht (without-lt (decode b) left (decode b .task d) (next .can))
 
-      pub one-door : {x' : PlanInHand} {left' at' : ℕ} → x' ≡ withDoor x d → left' ≡ without left task → at' ≡ decode b .depart d → Towards b v K p cells x' left' at'
+      pub one-door : {x' : PlanInHand} {left' at' : ℕ} → x' ≡ withDoor x d → left' ≡ without left task → at' ≡ decode b .depart d
+          → Towards b v K p cells x' left' at'
       one-door {x'} {left'} {at'} hx hl ha = record {
         open-still = record {
           sheet = t .open-still .sheet;
@@ -82,4 +67,5 @@ module _ {b : List ℕ} {v : View} {K p : ℕ} {cells : List ℕ} {x : PlanInHan
           fewer = rw hl fewer-left
 
   pub all-doors : left ≡ 0 → x ≡ completed (decode b) K p
-  all-doors e = sym (ap (withDoors x) (ap (λ (n : ℕ). bestDoors (decode b) n at) e ∙ best-none (decode b) (t .open-still .sheet .plannable .ranges) at)) ∙ t .plan
+  all-doors e = sym (ap (withDoors x) (ap (λ (n : ℕ). bestDoors (decode b) n at) e
+      ∙ best-none (decode b) (t .open-still .sheet .plannable .ranges) at)) ∙ t .plan

@@ -1,17 +1,10 @@
 -- The search for the first of the gathered doors that has a cost, and what the place found says. Assumes nothing.
-use mathlib.Core.Path.{_≡_, refl, sym, _∙_}
-use mathlib.Core.Logic.{_≢_}
-use mathlib.Core.Bool.{Bool, true, false, cond}
-use mathlib.Core.List.{List, [], _∷_}
-use Prim.Native.Nat.{ℕ, zero, suc, _+_, _≤_, _<_}
-use native.Mathlib.Omega.{arith}
-use lib.Dec.{eqb}
-use lib.ListN.{length, getD}
-use borrow.Author.Tests.{eqb-true, eqb-false}
+use Rattle.model.proofs.Basics.{_≡_, refl, sym, _∙_, _≢_, Bool, true, false, cond, List, [], _∷_, ℕ, zero, suc, _+_, _≤_, _<_, arith, eqb}
+use Rattle.model.proofs.Basics.{length, getD, eqb-true, eqb-false}
+use Rattle.model.specs.{mapBelow, indexOf}
 use Rattle.model.specs.Sheet.{Sheet}
-use Rattle.model.specs.Folds.{mapBelow, indexOf}
-use Rattle.model.proofs.Folds.{length-mapBelow, mapBelow-at}
-use Rattle.model.proofs.Walks.{Missed, index-next, index-here, index-none}
+use Rattle.model.proofs.Tools.Folds.{length-mapBelow, mapBelow-at}
+use Rattle.model.proofs.Tools.Walks.{Missed, index-next, index-here, index-none}
 use Rattle.row.specs.Leasts.{throughPoint, throughGathered}
 
 -- ---- where t first stands in a list that has it

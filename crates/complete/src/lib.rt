@@ -7,9 +7,9 @@ ghost use lib.ListN.{length};
 ghost use Rattle.model.specs.Folds.{mapBelow, indexOf};
 ghost use Rattle.model.specs.SheetLayout.{decode};
 ghost use Rattle.row.specs.Leasts.{throughGathered, Gathered};
-ghost use Rattle.plan.specs.Answers.{handOf};
+ghost use Rattle.hand.specs.Hands.{handOf};
 ghost use Rattle.complete.specs.Completed.{nextDoor, completed, Completable};
-use plan::Plan;
+use hand::Plan;
 use view::MAX_DOORS;
 use view::View;
 

@@ -1,23 +1,12 @@
 -- The charges on every door, one access rule at a time. Assumes nothing.
-use mathlib.Core.Path.{_≡_, refl, sym, ap, ap₂, _∙_, subst}
-use mathlib.Core.Logic.{_≢_, ⊎-elim}
-use mathlib.Core.Bool.{true, false, cond}
-use mathlib.Core.List.{List}
-use Prim.Native.Nat.{ℕ, _+_, _*_, _≤_, _<_}
-use native.Mathlib.Nat.{add-zero}
-use native.Mathlib.Numerals.{add-one}
-use native.Mathlib.Omega.{arith}
-use lib.Dec.{eqb}
-use lib.ListN.{length, getD, set, replicate, length-set, length-replicate, getD-replicate}
-use lib.Seq.{getD-set-same, getD-set-other, ext-getD}
-use borrow.Author.Tests.{eqb-true, eqb-false, eq-eqb, ne-eqb}
-use Rattle.model.specs.Folds.{sumBelow, mapBelow}
+use Rattle.model.proofs.Basics.{_≡_, refl, sym, ap, ap₂, _∙_, subst, _≢_, ⊎-elim, true, false, cond, List, ℕ, _+_, _*_, _≤_, _<_, add-zero}
+use Rattle.model.proofs.Basics.{add-one, arith, eqb, length, getD, set, replicate, length-set, length-replicate, getD-replicate, ext-getD}
+use Rattle.model.proofs.Basics.{getD-set-same, getD-set-other, eqb-true, eqb-false, eq-eqb, ne-eqb}
+use Rattle.model.specs.{sumBelow, mapBelow, maxDoors, ruleCharge, charges}
 use Rattle.model.specs.Sheet.{Sheet}
-use Rattle.model.specs.SheetLayout.{maxDoors}
-use Rattle.model.specs.Cost.{ruleCharge, charges}
-use Rattle.model.proofs.Tests.{tested}
-use Rattle.model.proofs.Folds.{length-mapBelow, mapBelow-at}
-use Rattle.model.proofs.Bounds.{maxCharge}
+use Rattle.model.proofs.Tools.Tests.{tested}
+use Rattle.model.proofs.Tools.Folds.{length-mapBelow, mapBelow-at}
+use Rattle.model.proofs.Theory.Bounds.{maxCharge}
 
 -- ---- the rules on a door
 

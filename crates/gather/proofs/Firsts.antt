@@ -1,18 +1,10 @@
 -- The tasks that can come first in a list, as a list: its receivers of pairs within it struck off, one pair at a time. Assumes nothing.
-use mathlib.Core.Path.{_≡_, refl, sym, ap, _∙_}
-use mathlib.Core.Logic.{⊎-elim}
-use mathlib.Core.Bool.{Bool, true, false, not, _&&_}
-use Prim.Native.Nat.{ℕ, zero, suc, _+_}
-use native.Mathlib.Numerals.{add-one}
-use lib.Dec.{eqb}
-use borrow.Author.Tests.{eqb-true, eqb-false}
-use Rattle.model.specs.Folds.{allBelow}
-use Rattle.model.specs.TaskList.{bit, member, without}
+use Rattle.model.proofs.Basics.{_≡_, refl, sym, ap, _∙_, ⊎-elim, Bool, true, false, not, _&&_, ℕ, zero, suc, _+_, add-one, eqb, eqb-true}
+use Rattle.model.proofs.Basics.{eqb-false}
+use Rattle.model.specs.{allBelow, bit, member, without, pairWithin, isFree, canComeFirst}
 use Rattle.model.specs.Sheet.{Sheet}
-use Rattle.model.specs.Orders.{pairWithin}
-use Rattle.model.specs.Method.{isFree, canComeFirst}
-use Rattle.model.proofs.Tests.{tested}
-use Rattle.model.proofs.Masks.{without-same, without-other}
+use Rattle.model.proofs.Tools.Tests.{tested}
+use Rattle.model.proofs.TaskLists.Masks.{without-same, without-other}
 use Rattle.gather.specs.Gathering.{firstBelow, firstTasks}
 
 -- a test more that passes, and one that fails
@@ -50,17 +42,17 @@ module _ (S : Sheet) (K : ℕ) where
   unfolding firstTasks canComeFirst isFree
   first-member t = first-below (S .pairs) t
 
-  -- pair i, as the code finds it
-  module _ (i : ℕ) {first from to : ℕ} {a b : Bool} (h : first ≡ firstBelow S K i) (f : from ≡ S .sender i) (g : to ≡ S .receiver i) (p : a ≡ member K from) (q : b ≡ member K to) where
-    pair : pairWithin S K i ≡ (a && b)
-    unfolding pairWithin
-    pair = rw (p, q, f, g)
+  -- whether pair i lies within K, as the code finds it
+  pub pair : (i : ℕ) {from to : ℕ} {a b : Bool} → from ≡ S .sender i → to ≡ S .receiver i → a ≡ member K from → b ≡ member K to → pairWithin S K i ≡ (a && b)
+  unfolding pairWithin
+  pair i f g p q = rw (p, q, f, g)
 
-    pub within : {r : ℕ} → (a && b) ≡ true → r ≡ without first to → r ≡ firstBelow S K (i + 1)
-    within w e = rw (add-one, pair, w, ← h, ← g) e
+  module _ (i : ℕ) {first : ℕ} (h : first ≡ firstBelow S K i) where
+    pub within : {to r : ℕ} → to ≡ S .receiver i → pairWithin S K i ≡ true → r ≡ without first to → r ≡ firstBelow S K (i + 1)
+    within g w e = rw (add-one, w, ← h, ← g) e
 
-    pub outside : (a && b) ≡ false → first ≡ firstBelow S K (i + 1)
-    outside w = rw (add-one, pair, w) h
+    pub outside : pairWithin S K i ≡ false → first ≡ firstBelow S K (i + 1)
+    outside w = rw (add-one, w) h
 
   pub all-pairs : (i : ℕ) {first : ℕ} → first ≡ firstBelow S K i → i ≡ S .pairs → first ≡ firstTasks S K
   unfolding firstTasks

@@ -1,20 +1,9 @@
 -- An array whose front a loop fills, with f of each element of a list. Assumes nothing.
-use mathlib.Core.Path.{_≡_, refl, sym, ap, _∙_}
-use mathlib.Core.List.{List, [], _∷_, _++_, map}
-use Prim.Native.Nat.{ℕ, suc, _+_, _<_}
-use native.Mathlib.Numerals.{add-one}
-use native.Mathlib.Omega.{arith}
-use lib.ListN.{length, getD, set, take, drop, length-set, length-map, length-append, length-take}
-use lib.Seq.{drop-cons, append-snoc, set-at, take-suc, take-length}
-use Rattle.model.specs.Bytes.{overwrite}
-
-map-snoc : (f : ℕ → ℕ) (xs : List ℕ) (x : ℕ) → map f (xs ++ (x ∷ [])) ≡ map f xs ++ (f x ∷ [])
-map-snoc f [] x = refl
-map-snoc f (y ∷ xs) x = ap (λ (l : List ℕ). f y ∷ l) (map-snoc f xs x)
-
-pub map-same : (xs : List ℕ) → map (λ (x : ℕ). x) xs ≡ xs
-map-same [] = refl
-map-same (x ∷ xs) = ap (λ (l : List ℕ). x ∷ l) (map-same xs)
+use Rattle.model.proofs.Basics.{_≡_, refl, sym, ap, _∙_, List, [], _∷_, _++_, map, ℕ, suc, _+_, _<_, add-one, arith, length, getD, take}
+use Rattle.model.proofs.Basics.{drop, set, length-append, length-map, length-set, length-take, drop-cons}
+use Rattle.model.specs.{overwrite}
+use mathlib.Core.List.{map-append}
+use lib.Seq.{append-snoc, set-at, take-suc, take-length}
 
 -- one element more at the front
 over-snoc : (xs a : List ℕ) (v m : ℕ) → length xs ≡ m → m < length a → set (overwrite xs a) m v ≡ overwrite (xs ++ (v ∷ [])) a
@@ -36,7 +25,7 @@ module _ {f : ℕ → ℕ} {xs a b : List ℕ} {i : ℕ} (h : Front f xs a b i) 
   pub front-next : {v : ℕ} {new : List ℕ} → i < length xs → i < length a → v ≡ f (getD xs i 0) → new ≡ set b i v → Front f xs a new (i + 1)
   front-next {v} l k q w = record {
     size = ap length w ∙ length-set b i v ∙ h .size;
-    is = w ∙ rw (h .is, q, add-one, take-suc xs i 0 l, map-snoc f (take i xs) (getD xs i 0))
+    is = w ∙ rw (h .is, q, add-one, take-suc xs i 0 l, map-append)
         (over-snoc (map f (take i xs)) a (f (getD xs i 0)) i (length-map (take i xs) f ∙ omega (arith, length-take i xs)) k);
   }
 

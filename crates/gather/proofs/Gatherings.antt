@@ -1,17 +1,10 @@
 -- What the loop over the doors that can come first has gathered of them: one door more. Assumes nothing.
-use mathlib.Core.Path.{_≡_, sym, ap, _∙_}
-use mathlib.Core.Bool.{Bool, true}
-use mathlib.Core.List.{List, map}
-use Prim.Native.Nat.{ℕ, _+_, _≤_, _<_}
-use native.Mathlib.Omega.{arith}
-use lib.ListN.{length, getD, set, take}
-use lib.Seq.{getD-take}
-use Rattle.model.specs.Folds.{passingBelow}
-use Rattle.model.specs.Bytes.{overwrite}
+use Rattle.model.proofs.Basics.{_≡_, sym, ap, _∙_, Bool, true, List, map, ℕ, _+_, _≤_, _<_, arith, length, getD, take, set, getD-take}
+use Rattle.model.specs.{passingBelow, overwrite, canComeFirst, firstDoors}
 use Rattle.model.specs.Sheet.{Sheet}
-use Rattle.model.specs.Method.{canComeFirst, firstDoors}
-use Rattle.gather.proofs.Passing.{passing-few, passing-each, FoundBelow}
-use Rattle.gather.proofs.Fronts.{map-same, Front, no-front, front-next, front-whole}
+use mathlib.Core.List.{map-id}
+use Rattle.gather.proofs.Passing.{passing-few, passing-at, FoundBelow}
+use Rattle.gather.proofs.Fronts.{Front, no-front, front-next, front-whole}
 
 -- whether door d's task can come first
 abbrev pub isFirst : Sheet → ℕ → ℕ → Bool
@@ -26,14 +19,15 @@ module _ (S : Sheet) (K : ℕ) where
 
   pub first-each : (i : ℕ) → i < length (firstDoors S K) → (getD (firstDoors S K) i 0 < S .doors) × (isFirst S K (getD (firstDoors S K) i 0) ≡ true)
   unfolding firstDoors
-  first-each i l = passing-each (isFirst S K) (λ d. (d < S .doors) × (isFirst S K d ≡ true)) (S .doors) (λ d m e. (m, e)) i l
+  first-each i l = passing-at (isFirst S K) (S .doors) i l
 
   -- all are found
-  pub all-found : {room m d : ℕ} {xs : List ℕ} → FoundBelow (isFirst S K) room xs m d → d ≡ S .doors → (m ≡ length (firstDoors S K)) × (take m xs ≡ firstDoors S K)
+  pub all-found : {room m d : ℕ} {xs : List ℕ} → FoundBelow (isFirst S K) room xs m d → d ≡ S .doors
+      → (m ≡ length (firstDoors S K)) × (take m xs ≡ firstDoors S K)
   unfolding firstDoors
   all-found h e = let p = ap (λ (n : ℕ). passingBelow n (isFirst S K)) e in (h .count ∙ ap length p, h .is ∙ p)
 
--- place i of what was found
+-- place i of what was found, and the door there
 pub record FoundAt (S : Sheet) (K : ℕ) (found : List ℕ) (i : ℕ) : Type 0 where
   pub within : i < length (firstDoors S K)
   pub few : i < S .doors
@@ -41,7 +35,8 @@ pub record FoundAt (S : Sheet) (K : ℕ) (found : List ℕ) (i : ℕ) : Type 0 w
   pub door : getD found i 0 < S .doors
   pub can : isFirst S K (getD found i 0) ≡ true
 
-pub found-at : (S : Sheet) (K : ℕ) {m i : ℕ} {found : List ℕ} → m ≡ length (firstDoors S K) → take m found ≡ firstDoors S K → i < m → FoundAt S K found i
+pub found-at : (S : Sheet) (K : ℕ) {m i : ℕ} {found : List ℕ} → m ≡ length (firstDoors S K) → take m found ≡ firstDoors S K → i < m
+    → FoundAt S K found i
 found-at S K {m} {i} {found} c e l =
     let w : i < length (firstDoors S K) = omega arith in
     let q : getD found i 0 ≡ getD (firstDoors S K) i 0 = sym (getD-take m found i 0 l) ∙ ap (λ (xs : List ℕ). getD xs i 0) e in
@@ -59,9 +54,11 @@ pub record GatheredBelow (S : Sheet) (xs : List ℕ) (part : ℕ → ℕ) (doors
 pub none-gathered : (S : Sheet) (xs : List ℕ) (part : ℕ → ℕ) (x y z : List ℕ) → GatheredBelow S xs part x y z x y z 0
 none-gathered S xs part x y z = record { door = no-front _ _ x; arrival = no-front _ _ y; rest = no-front _ _ z }
 
-module _ {S : Sheet} {xs : List ℕ} {part : ℕ → ℕ} {x y z doors arrivals parts : List ℕ} {i : ℕ} (h : GatheredBelow S xs part x y z doors arrivals parts i) where
+module _ {S : Sheet} {xs : List ℕ} {part : ℕ → ℕ} {x y z doors arrivals parts : List ℕ} {i : ℕ}
+    (h : GatheredBelow S xs part x y z doors arrivals parts i) where
   -- d, a and v are what the code stores
-  pub gather-one : {d a v : ℕ} {doors' arrivals' parts' : List ℕ} → i < length xs → i < length x → i < length y → i < length z → d ≡ getD xs i 0 → a ≡ S .arrive d → v ≡ part d
+  pub gather-one : {d a v : ℕ} {doors' arrivals' parts' : List ℕ} → i < length xs → i < length x → i < length y → i < length z
+      → d ≡ getD xs i 0 → a ≡ S .arrive d → v ≡ part d
       → doors' ≡ set doors i d → arrivals' ≡ set arrivals i a → parts' ≡ set parts i v → GatheredBelow S xs part x y z doors' arrivals' parts' (i + 1)
   gather-one l lx ly lz qd qa qv p q r = record {
     door = front-next (h .door) l lx qd p;
@@ -71,7 +68,7 @@ module _ {S : Sheet} {xs : List ℕ} {part : ℕ → ℕ} {x y z doors arrivals 
 
   module _ (e : i ≡ length xs) where
     pub all-doors : doors ≡ overwrite xs x
-    all-doors = front-whole (h .door) e ∙ ap (λ (l : List ℕ). overwrite l x) (map-same xs)
+    all-doors = front-whole (h .door) e ∙ ap (λ (l : List ℕ). overwrite l x) (map-id xs)
 
     pub all-arrivals : arrivals ≡ overwrite (map (S .arrive) xs) y
     all-arrivals = front-whole (h .arrival) e

@@ -1,78 +1,101 @@
--- The numbers below n that pass a test, as a loop finds them that stores every number and counts those that pass. Assumes nothing.
-use mathlib.Core.Path.{_≡_, refl, sym, ap, _∙_}
-use mathlib.Core.Logic.{⊎-elim}
-use mathlib.Core.Bool.{Bool, true, false}
-use mathlib.Core.List.{List, [], _∷_, _++_, append-nil}
-use Prim.Native.Nat.{ℕ, zero, suc, _+_, _≤_, _<_}
-use native.Mathlib.Nat.{add-zero}
-use native.Mathlib.Numerals.{add-one}
-use native.Mathlib.Omega.{arith}
+-- The numbers below n that pass a test: which stand in the list, and where; and how a loop finds them that stores every number and counts those that pass.
+-- Each law goes by whether the last number passes. Assumes nothing.
+use Rattle.model.proofs.Basics.{_≡_, refl, sym, ap, _∙_, ⊎-elim, Bool, true, false, List, [], _∷_, _++_, append-nil, ℕ, zero, suc, _+_, _≤_}
+use Rattle.model.proofs.Basics.{_<_, add-zero, add-one, arith, length, getD, take, set, length-append, length-set, List·getD-append}
+use Rattle.model.proofs.Basics.{getD-at}
+use Rattle.model.specs.{passingBelow}
+use Rattle.model.proofs.Tools.Tests.{tested, not-both, eq-or-lt}
 use mir.Val.{boolByte}
-use lib.ListN.{length, getD, set, take, length-set, length-append, List·getD-append}
-use lib.Seq.{getD-at, take-set-le, take-suc-set}
-use Rattle.model.specs.Folds.{passingBelow}
-use Rattle.model.proofs.Tests.{tested, eq-or-lt}
+use lib.Seq.{take-set-le, take-suc-set}
+
+-- an element of a list with x behind it is x, or stands where it stood
+snoc-at : (P : ℕ → Type 0) (xs : List ℕ) (x i : ℕ) → i < length (xs ++ (x ∷ [])) → (i ≡ length xs → P x) → (i < length xs → P (getD xs i 0))
+    → P (getD (xs ++ (x ∷ [])) i 0)
+snoc-at P xs x i l last early = ⊎-elim
+    (λ (w : i ≡ length xs). rw (getD-at xs x [] 0 i (sym w)) (last w))
+    (λ (w : i < length xs). rw (List·getD-append xs (x ∷ []) 0 i w) (early w))
+    (eq-or-lt i (length xs) (omega (arith, length-append xs (x ∷ []))))
 
 module _ (test : ℕ → Bool) where
-  -- one number more
-  passed-one : (d : ℕ) → test d ≡ true → passingBelow (d + 1) test ≡ passingBelow d test ++ (d ∷ [])
-  passed-one d e = rw (add-one, e)
-
-  failed-one : (d : ℕ) → test d ≡ false → passingBelow (d + 1) test ≡ passingBelow d test
-  failed-one d e = rw (add-one, e) (append-nil (passingBelow d test))
+  -- one number more: it passes and comes last, or it does not
+  passing-next : (C : List ℕ → Type 0) (n : ℕ) → (test n ≡ true → C (passingBelow n test ++ (n ∷ []))) → (test n ≡ false → C (passingBelow n test))
+      → C (passingBelow (suc n) test)
+  passing-next C n one none = ⊎-elim
+      (λ (w : test n ≡ true). rw w (one w))
+      (λ (w : test n ≡ false). rw (w, append-nil) (none w))
+      (tested (test n))
 
   -- no more pass than there are
   pub passing-few : (n : ℕ) → length (passingBelow n test) ≤ n
   passing-few zero = omega arith
-  passing-few (suc n) = ⊎-elim
-      (λ (w : test n ≡ true). rw w (simp length-append (omega (arith, passing-few n))))
-      (λ (w : test n ≡ false). rw w (simp length-append (omega (arith, passing-few n))))
-      (tested (test n))
+  passing-few (suc n) = passing-next (λ xs. length xs ≤ suc n) n
+      (λ e. rw length-append (omega (arith, passing-few n)))
+      (λ e. omega (arith, passing-few n))
 
-  -- what holds of every number below n that passes holds at every place of the list
-  pub passing-each : (P : ℕ → Type 0) (n : ℕ) → ((d : ℕ) → d < n → test d ≡ true → P d) → (i : ℕ) → i < length (passingBelow n test) → P (getD (passingBelow n test) i 0)
+  -- every element is below n and passes: so what holds of such numbers holds of it
+  passing-each : (P : ℕ → Type 0) (n : ℕ) → ((d : ℕ) → d < n → test d ≡ true → P d) → (i : ℕ) → i < length (passingBelow n test)
+      → P (getD (passingBelow n test) i 0)
   passing-each P zero h i l = absurd (omega arith)
-  passing-each P (suc n) h i l = go (passing-each P n (λ d m e. h d (omega arith) e) i) (test n) refl
-    where
-      go : (i < length (passingBelow n test) → P (getD (passingBelow n test) i 0)) → (b : Bool) → test n ≡ b → P (getD (passingBelow (suc n) test) i 0)
-      go ih true e =
-          let k : length (passingBelow (suc n) test) ≡ suc (length (passingBelow n test)) = rw e (simp length-append (omega arith)) in
-          rw e (⊎-elim
-          (λ (w : i ≡ length (passingBelow n test)). rw (getD-at (passingBelow n test) n [] 0 i (sym w)) (h n (omega arith) e))
-          (λ (w : i < length (passingBelow n test)). rw (List·getD-append (passingBelow n test) (n ∷ []) 0 i w) (ih w))
-          (eq-or-lt i (length (passingBelow n test)) (omega arith)))
-      go ih false e =
-          let k : passingBelow (suc n) test ≡ passingBelow n test = rw e (append-nil (passingBelow n test)) in
-          rw k (ih (omega (arith, ap length k)))
+  passing-each P (suc n) h i l = passing-next (λ xs. i < length xs → P (getD xs i 0)) n
+      (λ e m. snoc-at P (passingBelow n test) n i m (λ w. h n (omega arith) e) (passing-each P n (λ d k e. h d (omega arith) e) i))
+      (λ e m. passing-each P n (λ d k e. h d (omega arith) e) i m)
+      l
+
+  pub passing-at : (n i : ℕ) → i < length (passingBelow n test) → (getD (passingBelow n test) i 0 < n) × (test (getD (passingBelow n test) i 0) ≡ true)
+  passing-at n = passing-each (λ d. (d < n) × (test d ≡ true)) n (λ d m e. (m, e))
+
+  -- every number below n that passes is an element
+  pub passing-place : (n d : ℕ) → d < n → test d ≡ true → (i : ℕ) × (i < length (passingBelow n test)) × (getD (passingBelow n test) i 0 ≡ d)
+  passing-place zero d l a = absurd (omega arith)
+  passing-place (suc n) d l a = passing-next (λ xs. (i : ℕ) × (i < length xs) × (getD xs i 0 ≡ d)) n
+      (λ e. ⊎-elim
+      (λ (w : d ≡ n). let xs = passingBelow n test in (length xs, rw length-append (omega arith), getD-at xs n [] 0 (length xs) refl ∙ sym w))
+      (λ (w : d < n). let r = passing-place n d w a in
+      (r .0, rw length-append (omega (arith, r .1)), List·getD-append (passingBelow n test) (n ∷ []) 0 (r .0) (r .1) ∙ r .2))
+      (eq-or-lt d n l))
+      (λ e. ⊎-elim (λ (w : d ≡ n). absurd (not-both a (ap test w ∙ e))) (λ (w : d < n). passing-place n d w a) (eq-or-lt d n l))
+
+  -- the elements rise
+  pub passing-rises : (n i j : ℕ) → i < j → j < length (passingBelow n test) → getD (passingBelow n test) i 0 < getD (passingBelow n test) j 0
+  passing-rises zero i j l m = absurd (omega arith)
+  passing-rises (suc n) i j l m = passing-next (λ xs. j < length xs → getD xs i 0 < getD xs j 0) n
+      (λ e w.
+      let k : i < length (passingBelow n test) = omega (arith, length-append (passingBelow n test) (n ∷ [])) in
+      rw (List·getD-append (passingBelow n test) (n ∷ []) 0 i k)
+      (snoc-at (λ y. getD (passingBelow n test) i 0 < y) (passingBelow n test) n j w (λ u. passing-at n i k .0) (passing-rises n i j l)))
+      (λ e w. passing-rises n i j l w)
+      m
+
+-- ---- the loop
 
 -- the array xs, with a place for `room`, begins with the m numbers below d that pass
 pub record FoundBelow (test : ℕ → Bool) (room : ℕ) (xs : List ℕ) (m d : ℕ) : Type 0 where
   pub size : length xs ≡ room
+  pub few : m ≤ d
   pub count : m ≡ length (passingBelow d test)
   pub is : take m xs ≡ passingBelow d test
 
 pub none-found : (test : ℕ → Bool) (xs : List ℕ) → FoundBelow test (length xs) xs 0 0
-none-found test xs = record { size = refl; count = refl; is = refl }
+none-found test xs = record { size = refl; few = omega arith; count = refl; is = refl }
 
-module _ {test : ℕ → Bool} {room : ℕ} {xs : List ℕ} {m d : ℕ} (h : FoundBelow test room xs m d) where
-  pub found-few : m ≤ d
-  found-few = omega (arith, h .count, passing-few test d)
+-- d is stored, and counted where it passes: b is what the code finds
+pub one-found : {test : ℕ → Bool} {room : ℕ} {xs : List ℕ} {m d : ℕ} → FoundBelow test room xs m d → {b : Bool} → m < length xs → test d ≡ b
+    → FoundBelow test room (set xs m d) (m + boolByte b) (d + 1)
+one-found {test} {room} {xs} {m} {d} h {b} l e = rw add-one (go b e)
+  where
+    size' : length (set xs m d) ≡ room
+    size' = length-set xs m d ∙ h .size
 
-  -- d is stored, and counted where it passes: b is what the code finds
-  pub one-found : {b : Bool} → m < length xs → test d ≡ b → FoundBelow test room (set xs m d) (m + boolByte b) (d + 1)
-  one-found {b} l e = go b e
-    where
-      size' : length (set xs m d) ≡ room
-      size' = length-set xs m d ∙ h .size
-
-      go : (b : Bool) → test d ≡ b → FoundBelow test room (set xs m d) (m + boolByte b) (d + 1)
-      go true e = record {
-        size = size';
-        count = rw (passed-one test d e, length-append) (ap (λ (x : ℕ). x + 1) (h .count));
-        is = rw (passed-one test d e, ← h .is, add-one) (take-suc-set xs m d l);
-      }
-      go false e = rw add-zero (record {
-        size = size';
-        count = rw (failed-one test d e) (h .count);
-        is = rw (failed-one test d e) (take-set-le m xs m d (omega arith) ∙ h .is);
-      })
+    go : (b : Bool) → test d ≡ b → FoundBelow test room (set xs m d) (m + boolByte b) (suc d)
+    go true e = record {
+      size = size';
+      few = omega (arith, h .few);
+      count = rw (e, length-append) (ap (λ (x : ℕ). x + 1) (h .count));
+      is = rw (e, ← h .is, add-one) (take-suc-set xs m d l);
+    }
+    go false e = rw add-zero (record {
+      size = size';
+      few = omega (arith, h .few);
+      count = rw (e, append-nil) (h .count);
+      is = rw (e, append-nil) (take-set-le m xs m d (omega arith) ∙ h .is);
+    })

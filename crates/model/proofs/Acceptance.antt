@@ -1,40 +1,34 @@
 -- The starred lines of document 01, and further examples, hold of the definitions, by computing. Assumes nothing.
-use mathlib.Core.Path.{_≡_, refl}
-use lib.Dec.{T}
+use Rattle.model.proofs.Basics.{_≡_, refl, T}
+use Rattle.model.specs.{Neighbours.checkMethod, Neighbours.checkNeighbours, countBelow, isBetween, mapBelow, bit, with, without, full}
+use Rattle.model.specs.{size, watchedIn, isOrder, keepsPair, keepsEveryPair, pairWithin, keepsPairsWithin, isAdmissible}
+use Rattle.model.specs.{isOrderWithin, admissibleOrders, noOrder, essential, pairsAllow, load, ruleCharge, charges, stepCost, inSheet}
+use Rattle.model.specs.{isSolution, roundCost, planCost, plans, solutions, cheapest, isCompletion, completions, costToGo, numberAt}
+use Rattle.model.specs.{signed, bytesOf, overwrite, overwriteAt, writtenAt, accepted, kind1, fieldWidth, bytesBefore, entryBytes}
+use Rattle.model.specs.{lineAt, lineBody, lineOffset, entries, fieldAt, decodeBy, layoutOf, decode, tooShort, wrongKind, wrongEntries}
+use Rattle.model.specs.{someWrongEntries, wrongLine, wrongLength, wrongPlaces, badDoor, badStart, badPair, badRule, someBadDoor}
+use Rattle.model.specs.{someBadStart, someBadPair, someBadRule, outOfRange, lacksDoor, someLacksDoor, tooLight, sheetTests}
+use Rattle.model.specs.{unlessFault, readSheet, planStartAt, planDoorsAt, planCostAt, planLength, lineBytes, planHead, doorBytes}
+use Rattle.model.specs.{planBytes, wrongTasks, shortRoom, writeTests, writeAnswer, bytesWritten, writePlan, wrongHead, illFormed}
+use Rattle.model.specs.{startIn, doorIn, doorsIn, costIn, doorArray, readTests, readPlan, noDoors, withDoor, inHand, notInSheet}
+use Rattle.model.specs.{doneTwice, breaksPair, wrongCost, routeTests, planTests, validate, cellsNeeded, fewCells, roomTests, planFor}
+use Rattle.model.specs.{cellAfter, cellsAfter, plan, decimal, refusalLine, stepLine, planLines, printedWith, print, printed, withIn}
+use Rattle.model.specs.{listsOf, fullOf, meets, sendersOf}
 use Rattle.model.specs.Examples.{sheetA, checkStarred, checkFurther}
-use Rattle.model.specs.Folds.{countBelow, isBetween, mapBelow}
-use Rattle.model.specs.TaskList.{bit, with, without, full, size, watchedIn}
-use Rattle.model.specs.Orders.{isOrder, keepsPair, keepsEveryPair, pairWithin, keepsPairsWithin, isAdmissible, isOrderWithin, admissibleOrders, noOrder, essential, pairsAllow}
-use Rattle.model.specs.Cost.{load, ruleCharge, charges, stepCost}
-use Rattle.model.specs.Plans.{inSheet, isSolution, roundCost, planCost, plans, solutions, cheapest, isCompletion, completions, costToGo}
-use Rattle.model.specs.Bytes.{numberAt, signed, bytesOf, overwrite, overwriteAt, writtenAt}
-use Rattle.model.specs.Answer.{accepted}
-use Rattle.model.specs.SheetLayout.{kind1, fieldWidth, bytesBefore, entryBytes, lineAt, lineBody, lineOffset, entries, fieldAt, decodeBy, layoutOf, decode}
-use Rattle.model.specs.Faults.{tooShort, wrongKind, wrongEntries, someWrongEntries, wrongLine, wrongLength, wrongPlaces, badDoor, badStart, badPair, badRule, someBadDoor, someBadStart, someBadPair, someBadRule, outOfRange, lacksDoor, someLacksDoor, tooLight, sheetTests, unlessFault, readSheet}
-use Rattle.model.specs.PlanLayout.{planStartAt, planDoorsAt, planCostAt, planLength, lineBytes, planHead, doorBytes, planBytes, wrongTasks, shortRoom, writeTests, writeAnswer, bytesWritten, writePlan, wrongHead, illFormed, startIn, doorIn, doorsIn, costIn, doorArray, readTests, readPlan}
-use Rattle.model.specs.PlanInHand.{noDoors, withDoor, inHand}
-use Rattle.model.specs.Validating.{notInSheet, doneTwice, breaksPair, wrongCost, routeTests, planTests, validate}
-use Rattle.model.specs.Planning.{cellsNeeded, fewCells, roomTests, planFor, cellAfter, cellsAfter, plan}
-use Rattle.model.specs.Printing.{decimal, refusalLine, stepLine, planLines, printedWith, print, printed}
-use Rattle.model.specs.Neighbours.{checkMethod, checkNeighbours}
-use Rattle.model.specs.Method.{withIn, listsOf, fullOf, meets, sendersOf}
 
 examples : T checkStarred × T checkFurther × T checkNeighbours × T checkMethod × (readSheet sheetA ≡ accepted (record { tasks = 2; points = 3 }))
 unfolding checkStarred checkFurther checkNeighbours checkMethod
-    countBelow isBetween mapBelow
-    bit with without full size watchedIn withIn listsOf fullOf meets sendersOf
+    countBelow isBetween mapBelow bit with without full size watchedIn withIn listsOf fullOf meets sendersOf
     isOrder keepsPair keepsEveryPair pairWithin keepsPairsWithin isAdmissible isOrderWithin admissibleOrders noOrder essential pairsAllow
-    load ruleCharge charges stepCost
-    inSheet isSolution roundCost planCost plans solutions cheapest isCompletion completions costToGo
+    load ruleCharge charges stepCost inSheet isSolution roundCost planCost plans solutions cheapest isCompletion completions costToGo
     numberAt signed bytesOf overwrite overwriteAt writtenAt
     kind1 fieldWidth bytesBefore entryBytes lineAt lineBody lineOffset entries fieldAt decodeBy layoutOf decode
     tooShort wrongKind wrongEntries someWrongEntries wrongLine wrongLength wrongPlaces
-    badDoor badStart badPair badRule someBadDoor someBadStart someBadPair someBadRule outOfRange lacksDoor someLacksDoor tooLight sheetTests unlessFault readSheet
+    badDoor badStart badPair badRule someBadDoor someBadStart someBadPair someBadRule outOfRange
+    lacksDoor someLacksDoor tooLight sheetTests unlessFault readSheet
     planStartAt planDoorsAt planCostAt planLength lineBytes planHead doorBytes planBytes wrongTasks shortRoom writeTests writeAnswer bytesWritten writePlan
-    wrongHead illFormed startIn doorIn doorsIn costIn doorArray readTests readPlan
-    noDoors withDoor inHand
-    notInSheet doneTwice breaksPair wrongCost routeTests planTests validate
-    cellsNeeded fewCells roomTests planFor cellAfter cellsAfter plan
+    wrongHead illFormed startIn doorIn doorsIn costIn doorArray readTests readPlan noDoors withDoor inHand
+    notInSheet doneTwice breaksPair wrongCost routeTests planTests validate cellsNeeded fewCells roomTests planFor cellAfter cellsAfter plan
     decimal refusalLine stepLine planLines printedWith print printed
 examples = (tt, tt, tt, tt, refl)
 

@@ -27,7 +27,7 @@ wrongKind L b = not (eqb (numberAt 2 b 0) (L .kind))
 unfoldable pub wrongEntries : Layout → List ℕ → ℕ → Bool
 wrongEntries L b i = not (isBetween (getD (L .fewest (entries b pointsBody)) i 0) (getD (L .most (entries b pointsBody)) i 0) (entries b i))
 
--- 12: that of some body is
+-- 12: that of some body is outside it
 unfoldable pub someWrongEntries : Layout → List ℕ → Bool
 someWrongEntries L b = anyBelow bodies (wrongEntries L b)
 
@@ -82,7 +82,7 @@ outOfRange L S = someBadDoor S || someBadStart S || someBadPair S || someBadRule
 unfoldable pub lacksDoor : Sheet → ℕ → Bool
 lacksDoor S t = allBelow (S .doors) (λ d. not (eqb (S .task d) t))
 
--- 15: some task has none
+-- 15: some task has no door
 unfoldable pub someLacksDoor : Sheet → Bool
 someLacksDoor S = anyBelow (S .tasks) (lacksDoor S)
 

@@ -99,7 +99,7 @@ checkNeighbours =
     && readingRefuses (readSheet (set (changed 60 0) 70 3)) 14
     && readingRefuses (readSheet (set (changed 60 0) 2 2)) 15
     && readingRefuses (readSheet (likeA 2 2 (pairBytes 0 1 ++ pairBytes 1 0) 0 [])) 16
-    -- 17 and 20 (20 and 21 stand among the starred sheet's neighbours); 17 and 30
+    -- 17 and 20 (20 and 21 at once are in `checkFurther`); 17 and 30
     && sameAnswer (plan ringed (take 11 cellNoise) byteNoise .answer) (refused 17)
     && sameAnswer (validate ringed (take 35 planA)) (refused 17)
     -- 30 and 31; 31 and 32, with start 1 and doors 0, 0; 32 and 33, driven 1, 0, 0, where 1, 0, 2 gets 33; 33 and 34

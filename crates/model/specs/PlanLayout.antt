@@ -13,7 +13,7 @@ use Rattle.model.specs.SheetLayout.{lineAt}
 abbrev pub maxPlanDoors : ℕ
 maxPlanDoors = 12
 
--- kind 2, then zero
+-- the kind of a plan, in bytes 0 and 1; the two behind it are zero
 abbrev pub planKind : ℕ
 planKind = 2
 
@@ -58,7 +58,7 @@ planBytes n start doors cost = planHead n ++ bytesOf 2 start ++ doorBytes n door
 unfoldable pub wrongTasks : ℕ → ℕ → Bool
 wrongTasks n lent = not (isBetween 1 maxPlanDoors n) || ltb lent n
 
--- what writing answers, the length, and the whole buffer afterwards
+-- the answer, which is the length, and the whole buffer afterwards
 pub record PlanWritten : Type 0 where
   pub answer : Answer ℕ
   pub bytes : List ℕ
@@ -71,7 +71,7 @@ shortRoom n room = ltb room (planLength n)
 unfoldable pub writeTests : ℕ → ℕ → ℕ → List Test
 writeTests n lent room = (12 when wrongTasks n lent) ∷ (21 when shortRoom n room) ∷ []
 
--- one of them, else the length
+-- what writing answers: one of them, else the length
 unfoldable pub writeAnswer : ℕ → ℕ → ℕ → Answer ℕ
 writeAnswer n lent room = refuseFirst (writeTests n lent room) (accepted (planLength n))
 
@@ -93,7 +93,7 @@ writePlan n start doors cost buffer = record {
 unfoldable pub wrongHead : ℕ → List ℕ → Bool
 wrongHead n q = not (sameList (take planStartAt q) (planHead n))
 
--- 30: the length is not, or such a byte
+-- 30: the length is not as laid out, or a byte before the start
 unfoldable pub illFormed : ℕ → List ℕ → Bool
 illFormed n q = not (eqb (length q) (planLength n)) || wrongHead n q
 
@@ -113,7 +113,7 @@ doorsIn n q = mapBelow n (doorIn q)
 unfoldable pub costIn : ℕ → List ℕ → ℕ
 costIn n q = numberAt 8 q (planCostAt n)
 
--- n doors where so many are lent; those from n on are 0
+-- the array of doors that reading leaves: of so many lent the first n as read, and 0 from n on
 unfoldable pub doorArray : ℕ → ℕ → (ℕ → ℕ) → List ℕ
 doorArray lent n door = mapBelow lent (λ i. cond (ltb i n) (door i) 0)
 

@@ -49,7 +49,7 @@ pointsBody = 5
 abbrev pub distancesBody : ℕ
 distancesBody = 6
 
--- how many there are
+-- how many bodies there are
 abbrev pub bodies : ℕ
 bodies = 7
 

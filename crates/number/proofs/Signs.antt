@@ -1,16 +1,13 @@
 -- Two's complement of two bytes, as the code takes it. Assumes nothing.
-use mathlib.Core.Path.{_≡_, ap, _∙_}
-use Prim.Native.Nat.{ℕ, _*_, _≤_, _<_}
-use native.Mathlib.Omega.{arith}
+use Rattle.model.proofs.Basics.{_≡_, ap, _∙_, ℕ, _*_, _≤_, _<_, arith, ℤ, pos, negsuc, lt-ltb, le-ltb}
+use Rattle.model.specs.{signed}
 use native.Mathlib.Nat.{lt-of-lt-of-le}
 use lib.Dec.{lit≤}
-use lib.IntN.{ℤ, pos, negsuc, _-ℤ_}
+use lib.IntN.{_-ℤ_}
 use lib.Signed.{mag}
 use mir.Syntax.{w16, w32}
 use mir.Val.{toZ, ofZ, SFits}
 use mir.ValLaws.{toZ-ofZ, toZ-pos}
-use borrow.Author.Tests.{lt-ltb, le-ltb}
-use Rattle.model.specs.Bytes.{signed}
 
 -- below 32,768 a number stands for itself
 pub signed-small : (n : ℕ) → n < 32768 → toZ w16 n ≡ signed 2 n
@@ -21,7 +18,9 @@ module _ (n : ℕ) (h : 32768 ≤ n) (g : n < 65536) where
   -- and from there on for itself less 65,536
   less : toZ w32 n -ℤ pos 65536 ≡ signed 2 n
   unfolding signed
-  less = ap (λ (z : ℤ). z -ℤ pos 65536) (toZ-pos w32 n (lt-of-lt-of-le g (lit≤ tt))) ∙ simp (lt-ltb n 65536 g, le-ltb (2 * n) 65536 (omega arith)) (ap negsuc (omega arith))
+  less =
+      ap (λ (z : ℤ). z -ℤ pos 65536) (toZ-pos w32 n (lt-of-lt-of-le g (lit≤ tt)))
+      ∙ simp (lt-ltb n 65536 g, le-ltb (2 * n) 65536 (omega arith)) (ap negsuc (omega arith))
 
   low : mag (signed 2 n) < 32768
   unfolding signed

@@ -1,14 +1,11 @@
--- What writing and reading answer: the number of a refusal, or the length written, and the plan in hand as the definitions have it
--- (01, Numbers a call can answer with and Working). Assumes nothing.
+-- What writing and reading answer: the number of a refusal, or the length written (01, Numbers a call can answer with). Assumes nothing.
 use Prim.Native.Nat.{ℕ}
 use Rattle.model.specs.Answer.{Answer, refused, accepted}
-use Rattle.model.specs.PlanInHand.{PlanInHand}
 use Rattle.refusal.specs.Numbers.{numberOf}
 use Rattle.plan.specs.declared.Writing.{Writing}
 use Rattle.plan.specs.declared.Writing.the-variants as writing
 use Rattle.plan.specs.declared.Reading.{Reading}
 use Rattle.plan.specs.declared.Reading.the-variants as reading
-use Rattle.plan.specs.declared.Plan.{Plan}
 
 -- what writing answered: the length
 abbrev pub answerOf : Writing → Answer ℕ
@@ -19,7 +16,3 @@ answerOf (writing.Refused r) = refused (numberOf r)
 abbrev pub statusOf : Reading → ℕ
 statusOf reading.Read = 0
 statusOf (reading.Refused r) = numberOf r
-
--- the plan in hand, as the definitions have it
-abbrev pub handOf : Plan → PlanInHand
-handOf x = record { doors = x .doors; count = x .count; cost = x .cost }

@@ -1,56 +1,16 @@
-// Plans: the plan in hand, and plans written as bytes and read from them.
+// Plans written as bytes and read from them.
 ghost use mathlib.Core.Path.{_≡_};
 ghost use lib.ListN.{length};
 ghost use Rattle.model.specs.Answer.{status};
-ghost use Rattle.model.specs.PlanLayout.{writePlan, illFormed, startIn, readPlan, startLeft, doorsLeft, costLeft};
-ghost use Rattle.model.specs.PlanInHand.{noDoors, withDoor, inHand};
-ghost use Rattle.plan.specs.Answers.{answerOf, statusOf, handOf};
-use number::read_u16;
-use number::write_u16;
-use number::write_u64;
+ghost use Rattle.model.specs.PlanLayout.{writePlan, readPlan, startLeft, doorsLeft, costLeft};
+ghost use Rattle.plan.specs.Answers.{answerOf, statusOf};
+use layout::COST_BYTES;
+use layout::DOORS_AT;
+use layout::START_AT;
 use refusal::Refusal;
-
-pub mod layout;
-
-// The most doors of a plan.
-pub const MAX_DOORS: usize = 12;
-
-// A plan in hand: its doors, how many of the places they take, and its cost.
-pub struct Plan {
-    pub doors: [u16; MAX_DOORS],
-    pub count: usize,
-    pub cost: u64,
-}
-
-impl Plan {
-    // A plan of that cost with no door yet.
-    pub fn new(cost: u64) -> Self
-        ensures { λ r. ⌜ handOf r ≡ noDoors cost ⌝ }
-    {
-        Plan {
-            doors: [0u16; MAX_DOORS],
-            count: 0,
-            cost: cost,
-        }
-    }
-
-    // The plan with that door added. A full plan is handed back as it is.
-    pub fn with_door(self, door: u16) -> Self
-        ensures { λ r. ⌜ handOf r ≡ withDoor (handOf self) door ⌝ }
-    {
-        let at = self.count;
-        if MAX_DOORS <= at {
-            return self;
-        }
-        let mut doors = self.doors;
-        doors[at] = door;
-        Plan {
-            doors: doors,
-            count: at + 1,
-            cost: self.cost,
-        }
-    }
-}
+use store::write_row;
+use store::write_u16;
+use store::write_u64;
 
 // What writing answers: the length, or 12 or 21.
 pub enum Writing {
@@ -78,9 +38,9 @@ pub fn write(n: usize, start: u16, doors: &[u16], cost: u64, buf: &mut [u8]) -> 
         return Writing::Refused(Refusal::ShortBuffer);
     }
     layout::write_head(buf, tasks);
-    write_u16(buf, layout::START_AT, start);
-    layout::write_doors(buf, &doors[..n]);
-    write_u64(buf, length - layout::COST_BYTES, cost);
+    write_u16(buf, START_AT, start);
+    write_row(buf, DOORS_AT, &doors[..n]);
+    write_u64(buf, length - COST_BYTES, cost);
     Writing::Written(length)
 }
 
@@ -95,38 +55,11 @@ pub fn read(n: usize, q: &[u8], start: &mut u16, doors: &mut [u16], cost: &mut u
         return Reading::Refused(Refusal::WrongEntries);
     }
     let tasks = n as u16;
-    if ill_formed(tasks, q) {
+    if layout::ill_formed(tasks, q) {
         return Reading::Refused(Refusal::IllFormed);
     }
-    *start = start_in(q);
+    *start = layout::start_in(q);
     layout::read_doors(tasks, q, doors);
     *cost = layout::cost_in(tasks, q);
     Reading::Read
-}
-
-// Whether the length, or a byte before the start, is not as laid out for n doors.
-pub fn ill_formed(n: u16, q: &[u8]) -> bool
-    ensures { λ r. ⌜ r ≡ illFormed n (now (q .entry)) ⌝ }
-{
-    q.len() != layout::byte_length(n) || layout::wrong_head(n, q)
-}
-
-// The start that the bytes hold.
-pub fn start_in(q: &[u8]) -> u16
-    ensures { λ r. ⌜ r ≡ startIn (now (q .entry)) ⌝ }
-{
-    read_u16(q, layout::START_AT)
-}
-
-// The plan of n doors that the bytes hold, in hand.
-pub fn in_hand(n: u16, q: &[u8]) -> Plan
-    ensures { λ r. ⌜ handOf r ≡ inHand n (now (q .entry)) ⌝ }
-{
-    let mut x = Plan::new(layout::cost_in(n, q));
-    let mut i: u16 = 0;
-    while i < n {
-        x = x.with_door(layout::door_in(q, i));
-        i = i + 1;
-    }
-    x
 }

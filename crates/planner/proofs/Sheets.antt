@@ -1,25 +1,14 @@
 -- A sheet that reads has what the planner's calls ask, and its refusals for want of room. Assumes nothing.
-use mathlib.Core.Path.{_≡_, refl, sym, ap, _∙_}
-use mathlib.Core.List.{List}
-use Prim.Native.Nat.{ℕ, _+_, _*_, _^_, _≤_, _<_}
-use native.Mathlib.Omega.{arith}
+use Rattle.model.proofs.Basics.{_≡_, refl, sym, ap, _∙_, List, ℕ, _+_, _*_, _^_, _≤_, _<_, arith, length, pow-pos, lt-ltb, le-ltb}
+use Rattle.model.specs.{full, maxListed, fullOf, refused, decode, readSheet, planLength, shortRoom, cellsNeeded, fewCells, roomTests}
+use Rattle.model.specs.{planFor, cellsAfter, Planned, plan}
+use Rattle.model.proofs.TaskLists.Masks.{full-lt, full-of}
+use Rattle.model.proofs.Theory.Loads.{light, loads-hold}
+use Rattle.model.proofs.Theory.OpenAlong.{full-allowed}
+use Rattle.model.proofs.Bytes.Entries.{tasks-listed}
+use Rattle.model.proofs.Calls.Reading.{Reads, reads-then, counts-read, refused-alike}
+use Rattle.model.proofs.Calls.Planning.{length-cells, plan-refused, plannable}
 use lib.Arith.{digits-lt}
-use lib.ListN.{length}
-use lib.Pow.{pow-pos}
-use borrow.Author.Tests.{lt-ltb, le-ltb}
-use Rattle.model.specs.TaskList.{full}
-use Rattle.model.specs.Method.{maxListed, fullOf}
-use Rattle.model.specs.Answer.{refused}
-use Rattle.model.specs.SheetLayout.{decode}
-use Rattle.model.specs.Faults.{readSheet}
-use Rattle.model.specs.PlanLayout.{planLength, shortRoom}
-use Rattle.model.specs.Planning.{cellsNeeded, fewCells, roomTests, planFor, cellsAfter, plan}
-use Rattle.model.proofs.Masks.{full-lt, full-of}
-use Rattle.model.proofs.Entries.{tasks-listed}
-use Rattle.model.proofs.Loads.{light, loads-hold}
-use Rattle.model.proofs.Reading.{Reads, reads-then, counts-read, refused-alike}
-use Rattle.model.proofs.OpenAlong.{full-allowed}
-use Rattle.model.proofs.Planning.{length-cells, plan-refused, plannable}
 use Rattle.view.specs.declared.View.{View}
 use Rattle.view.specs.Views.{viewOf, Viewed}
 use Rattle.view.proofs.Counted.{tasks-are}
@@ -30,8 +19,19 @@ use Rattle.table.proofs.Filling.{shown-after}
 use Rattle.complete.specs.Completed.{Completable}
 use Rattle.planner.specs.Choosing.{startAt, Startable}
 
+-- past the tests: the sheet reads, and there is room for the cells and for the plan
+pub record Roomy (b cells buffer : List ℕ) : Type 0 where
+  pub reads : Reads b
+  pub room : cellsNeeded (decode b) ≤ length cells
+  pub wide : planLength (decode b .tasks) ≤ length buffer
+
+-- what planning leaves, part by part
+pub in-parts : {p q : Planned} → p ≡ q → (q .answer ≡ p .answer) × ((q .cells ≡ p .cells) × (q .bytes ≡ p .bytes))
+in-parts e = (sym (ap (λ (x : Planned). x .answer) e), (sym (ap (λ (x : Planned). x .cells) e), sym (ap (λ (x : Planned). x .bytes) e)))
+
 -- what the reader refuses planning refuses, and leaves cells and buffer
-pub sheet-refused : (b cells buffer : List ℕ) {r : ℕ} → refused r ≡ readSheet b → plan b cells buffer ≡ record { answer = refused r; cells = cells; bytes = buffer }
+pub sheet-refused : (b cells buffer : List ℕ) {r : ℕ} → refused r ≡ readSheet b
+    → plan b cells buffer ≡ record { answer = refused r; cells = cells; bytes = buffer }
 unfolding readSheet planFor roomTests fewCells shortRoom
 sheet-refused b cells buffer {r} e = plan-refused b cells buffer r (refused-alike b _ _ _ r refl (sym e))
 
@@ -42,14 +42,16 @@ module _ (b : List ℕ) (h : Reads b) where
   -- ---- room
 
   -- 20, and 21
-  pub few-cells : (cells buffer : List ℕ) → length cells < cellsNeeded (decode b) → plan b cells buffer ≡ record { answer = refused 20; cells = cells; bytes = buffer }
+  pub few-cells : (cells buffer : List ℕ) → length cells < cellsNeeded (decode b)
+      → plan b cells buffer ≡ record { answer = refused 20; cells = cells; bytes = buffer }
   unfolding planFor roomTests fewCells shortRoom
   few-cells cells buffer l = plan-refused b cells buffer 20 (reads-then b _ h ∙ rw (lt-ltb _ _ l))
 
   pub short-buffer : (cells buffer : List ℕ) → cellsNeeded (decode b) ≤ length cells → length buffer < planLength (decode b .tasks)
       → plan b cells buffer ≡ record { answer = refused 21; cells = cells; bytes = buffer }
   unfolding planFor roomTests fewCells shortRoom
-  short-buffer cells buffer c l = plan-refused b cells buffer 21 (reads-then b _ h ∙ rw (le-ltb (length cells) (cellsNeeded (decode b)) c, lt-ltb _ _ l))
+  short-buffer cells buffer c l = plan-refused b cells buffer 21
+      (reads-then b _ h ∙ rw (le-ltb (length cells) (cellsNeeded (decode b)) c, lt-ltb _ _ l))
 
   -- ---- what the calls ask
 
@@ -71,33 +73,31 @@ module _ (b : List ℕ) (h : Reads b) where
 
     -- of the cells once they are filled
     module _ (cells : List ℕ) (room : cellsNeeded (decode b) ≤ length cells) where
-      one-point : 0 < decode b .points
-      one-point = counts-read b h .one-point
-
       whole : 2 ^ decode b .tasks * decode b .points ≤ length (cellsAfter (decode b) cells)
       unfolding cellsNeeded
       whole = rw (length-cells (decode b) cells) room
 
-      pub startable : Startable b v (cellsAfter (decode b) cells)
+      pub startable : {new : List ℕ} → new ≡ cellsAfter (decode b) cells → Startable b v new
       unfolding startAt
-      startable = record {
+      startable e = rw e (record {
         view = viewed;
         few = few;
         one-start = counts-read b h .one-start;
         held = λ s l. omega (arith, whole, digits-lt (full-lt (decode b .tasks)) (plannable b h .ranges .start s l));
-      }
+      })
 
       next-full : full (decode b .tasks) + 1 ≡ 2 ^ decode b .tasks
       unfolding full
       next-full = omega (arith, pow-pos (decode b .tasks))
 
-      pub completable : (s : ℕ) → s < decode b .starts → Completable b v (full (decode b .tasks)) (decode b .startPoint s) (cellsAfter (decode b) cells)
+      pub completable : {K p : ℕ} {new : List ℕ} (s : ℕ) → s < decode b .starts → K ≡ full (decode b .tasks) → p ≡ decode b .startPoint s
+          → new ≡ cellsAfter (decode b) cells → Completable b v K p new
       unfolding cellsNeeded
-      completable s l = record {
+      completable s l k p e = rw (k, p, e) (record {
         sheet = fillable;
         list = full-lt (decode b .tasks);
         allowed = full-allowed (decode b) (plannable b h .ranges);
         point = plannable b h .ranges .start s l;
         room = rw next-full whole;
-        known = rw next-full (shown-after (decode b) cells room one-point);
-      }
+        known = rw next-full (shown-after (decode b) cells room (counts-read b h .one-point));
+      })

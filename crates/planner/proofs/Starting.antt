@@ -1,18 +1,9 @@
 -- The first of the starts of least cost, start by start, and the places that the code computes. Assumes nothing.
-use mathlib.Core.Path.{_≡_, refl, sym, ap, ap₂, _∙_}
-use mathlib.Core.Bool.{true}
-use mathlib.Core.Option.{some}
-use mathlib.Core.List.{List}
-use Prim.Native.Nat.{ℕ, _+_, _*_, _≤_, _<_}
-use native.Mathlib.Numerals.{add-one}
-use borrow.Author.Tests.{lt-ltb, le-ltb}
-use Rattle.model.specs.Folds.{passingBelow, cheaper, firstLeast}
-use Rattle.model.specs.Method.{maxListed, listsOf, fullOf}
-use Rattle.model.specs.SheetLayout.{decode}
+use Rattle.model.proofs.Basics.{_≡_, refl, sym, ap, ap₂, _∙_, true, List, some, ℕ, _+_, _*_, _≤_, _<_, add-one, lt-ltb, le-ltb}
+use Rattle.model.specs.{passingBelow, cheaper, firstLeast, maxListed, listsOf, fullOf, decode, cellsNeeded}
 use Rattle.model.specs.Sheet.{Sheet}
-use Rattle.model.specs.Planning.{cellsNeeded}
-use Rattle.model.proofs.Masks.{lists-of, full-of}
-use Rattle.model.proofs.Scans.{scan-take}
+use Rattle.model.proofs.Tools.Scans.{scan-take}
+use Rattle.model.proofs.TaskLists.Masks.{lists-of, full-of}
 use Rattle.view.specs.declared.View.{View}
 use Rattle.view.specs.Views.{Viewed}
 use Rattle.view.proofs.Counted.{tasks-are, points-are}

@@ -78,7 +78,7 @@ fn plan_sheet(s: &[u8], v: View, cells: &mut [u64], buf: &mut [u8]) -> Planning
     ensures bytes { λ r. ⌜ now (buf .exit) ≡ plan (now (s .entry)) (now (cells .entry)) (now (buf .entry)) .bytes ⌝ }
 {
     let few = cells.len() < cells_needed(s, v);
-    let short = buf.len() < plan::layout::byte_length(v.tasks);
+    let short = buf.len() < layout::byte_length(v.tasks);
     if few {
         return Planning::Refused(Refusal::FewCells);
     }

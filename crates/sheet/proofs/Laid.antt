@@ -1,18 +1,11 @@
--- A sheet that 10 to 13 do not refuse has the layout that reading over its view asks for, and numbers of entries within the table; so has one that reads. Assumes nothing.
-use mathlib.Core.Path.{_≡_}
-use mathlib.Core.List.{List}
-use Prim.Native.Nat.{ℕ, _*_}
-use native.Mathlib.Omega.{arith}
-use lib.Dec.{lit<}
-use lib.ListN.{length}
-use borrow.Author.Tests.{eqb-true, not-false}
-use Rattle.model.specs.Folds.{anyBelow}
-use Rattle.model.specs.SheetLayout.{distancesBody, bodies, kind1, entries, bodyAt, decodeBy, layoutOf, decode}
-use Rattle.model.specs.Faults.{wrongLine, wrongLength, wrongPlaces}
-use Rattle.model.specs.Passing.{CountsWithin}
-use Rattle.model.proofs.Tests.{or-right}
-use Rattle.model.proofs.Entries.{entries-within, counts-within}
-use Rattle.model.proofs.Reading.{Reads}
+-- A sheet that 10 to 13 do not refuse has the layout that reading over its view asks for, and numbers of entries within the table; so has
+-- one that reads. Assumes nothing.
+use Rattle.model.proofs.Basics.{_≡_, List, ℕ, _*_, arith, lit<, length, eqb-true, not-false}
+use Rattle.model.specs.{anyBelow, distancesBody, bodies, kind1, entries, bodyAt, decodeBy, layoutOf, decode, wrongLine, wrongLength}
+use Rattle.model.specs.{wrongPlaces, CountsWithin}
+use Rattle.model.proofs.Tools.Tests.{or-right}
+use Rattle.model.proofs.Bytes.Entries.{entries-within, counts-within}
+use Rattle.model.proofs.Calls.Reading.{Reads}
 use Rattle.view.specs.declared.View.{View}
 use Rattle.view.specs.Views.{viewOf, Viewed}
 use Rattle.sheet.specs.Layouts.{LaidOut}

@@ -1,16 +1,8 @@
 -- The limits and the places of the bodies, as the code's tables and sums have them. Assumes nothing.
-use mathlib.Core.Path.{_≡_, refl}
-use mathlib.Core.Bool.{not, _||_}
-use mathlib.Core.List.{List, [], _∷_}
-use Prim.Native.Nat.{ℕ, _+_, _*_, _^_, _≤_, _<_}
-use native.Mathlib.Nat.{mul-le-mul-right}
-use native.Mathlib.Omega.{arith}
-use native.Mathlib.Numerals.{add-one}
-use lib.Dec.{eqb, ltb}
-use lib.ListN.{getD}
-use Rattle.model.specs.SheetLayout.{pointsBody, distancesBody, kind1, entryBytes, entries, bodyAt, layoutOf}
-use Rattle.model.specs.Faults.{wrongEntries}
-use Rattle.model.proofs.Tests.{outside, exactly}
+use Rattle.model.proofs.Basics.{_≡_, refl, not, _||_, List, [], _∷_, ℕ, _+_, _*_, _^_, _≤_, _<_, mul-le-mul-right, add-one, arith, eqb, ltb}
+use Rattle.model.proofs.Basics.{getD}
+use Rattle.model.specs.{pointsBody, distancesBody, kind1, entryBytes, entries, bodyAt, layoutOf, wrongEntries}
+use Rattle.model.proofs.Tools.Tests.{outside, exactly}
 use Rattle.tasklist.proofs.Table.{values}
 
 -- ---- fault 12
@@ -27,14 +19,16 @@ module _ (b : List ℕ) where
   ) (outside _ _ (entries b i))
 
   -- the distances: as many as pairs of points
-  pub all-distances : (p x : ℕ) → p ≡ entries b pointsBody → x ≡ entries b distancesBody → not (eqb x (p * p)) ≡ wrongEntries (layoutOf b) b distancesBody
+  pub all-distances : (p x : ℕ) → p ≡ entries b pointsBody → x ≡ entries b distancesBody
+      → not (eqb x (p * p)) ≡ wrongEntries (layoutOf b) b distancesBody
   unfolding wrongEntries layoutOf kind1
   all-distances p x e f = rw (e, f) (exactly _ _)
 
   -- ---- fault 13
 
   -- the next body begins behind this one
-  pub next-body : (i at n w : ℕ) → at ≡ bodyAt (layoutOf b) b i → n ≡ entries b i → w ≡ entryBytes (layoutOf b) i → at + n * w ≡ bodyAt (layoutOf b) b (i + 1)
+  pub next-body : (i at n w : ℕ) → at ≡ bodyAt (layoutOf b) b i → n ≡ entries b i → w ≡ entryBytes (layoutOf b) i
+      → at + n * w ≡ bodyAt (layoutOf b) b (i + 1)
   next-body i at n w a e f = rw (add-one, a, e, f)
 
 -- a body of 16 bits of entries is short

@@ -1,11 +1,7 @@
 -- What the sheet's tests that remain answer, once the first of them were passed. Assumes nothing.
-use mathlib.Core.Path.{_≡_}
-use mathlib.Core.List.{List}
-use Prim.Native.Nat.{ℕ}
-use lib.ListN.{drop}
-use Rattle.model.specs.Answer.{Answer, accepted, refuseFirst}
-use Rattle.model.specs.SheetLayout.{decode}
-use Rattle.model.specs.Faults.{sheetTests, unlessFault, Counts, readSheet}
+use Rattle.model.proofs.Basics.{_≡_, List, ℕ, drop}
+use Rattle.model.specs.{accepted, refuseFirst, decode, sheetTests, unlessFault, Counts, readSheet}
+use Rattle.model.specs.Answer.{Answer}
 use Rattle.sheet.specs.Layouts.{LaidOut}
 
 abbrev pub answer : ℕ → ℕ → Answer Counts

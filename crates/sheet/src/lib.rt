@@ -7,11 +7,7 @@ ghost use Rattle.sheet.specs.Answers.{answerOf, viewIn};
 use refusal::Refusal;
 use view::View;
 
-mod door;
 mod layout;
-mod light;
-mod order;
-mod range;
 
 // What reading answers: the view of the sheet, or one of 10 to 17.
 pub enum Reading {
@@ -48,15 +44,15 @@ fn read_bodies(s: &[u8], v: View) -> Reading
     if range::out_of_range(s, v) {
         return Reading::Refused(Refusal::OutOfRange);
     }
-    let lacking = door::some_lacks_door(s, v);
-    let light = light::too_light(s, v);
+    let lacking = feasible::some_lacks_door(s, v);
+    let light = feasible::too_light(s, v);
     if lacking {
         return Reading::Refused(Refusal::NoDoor);
     }
     if light {
         return Reading::Refused(Refusal::TooLight);
     }
-    if order::something_left(s, v) {
+    if feasible::something_left(s, v) {
         return Reading::Refused(Refusal::NoOrder);
     }
     Reading::Read(v)

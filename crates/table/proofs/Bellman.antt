@@ -1,31 +1,22 @@
 -- What is gathered from cells that show the lists below K gives the cost to go with K open: Bellman's equation, as the code computes it. Assumes nothing.
-use mathlib.Core.Path.{_≡_, refl, sym, ap, _∙_}
-use mathlib.Core.Bool.{true, false≢true, or-true}
-use mathlib.Core.List.{List, map}
-use Prim.Native.Nat.{ℕ, zero, suc, _+_, _*_, _^_, _≤_, _<_}
-use native.Mathlib.Omega.{arith}
-use lib.Arith.{digits-lt}
-use lib.IntN.{natAbs}
-use lib.ListN.{length, getD, length-map}
-use lib.Pow.{areBytes, pow-pos}
-use Rattle.model.specs.TaskList.{without, size}
+use Rattle.model.proofs.Basics.{_≡_, refl, sym, ap, _∙_, true, List, map, ℕ, zero, suc, _+_, _*_, _^_, _≤_, _<_, arith, length, getD}
+use Rattle.model.proofs.Basics.{length-map, areBytes, pow-pos, natAbs}
+use Rattle.model.specs.{without, size, essential, pairsAllow, canComeFirst, firstDoors, load, stepCost, costToGo, maxTasks, decode}
 use Rattle.model.specs.Sheet.{Sheet}
-use Rattle.model.specs.Orders.{essential, pairsAllow}
-use Rattle.model.specs.Method.{canComeFirst, firstDoors}
-use Rattle.model.specs.Cost.{load, stepCost}
-use Rattle.model.specs.Plans.{costToGo}
-use Rattle.model.specs.SheetLayout.{maxTasks, decode}
-use Rattle.model.proofs.Folds.{length-mapBelow, mapBelow-at}
-use Rattle.model.proofs.Masks.{bit-le, without-is, size-zero}
-use Rattle.model.proofs.FirstTask.{first-bit, allow-without}
-use Rattle.model.proofs.Driving.{throughDoor, to-go-by-first, FirstDoor, first-door, through-small}
+use Rattle.model.proofs.Tools.Folds.{length-mapBelow, mapBelow-at}
+use Rattle.model.proofs.Tools.Positions.{map-at}
+use Rattle.model.proofs.TaskLists.Masks.{bit-le, without-is, size-zero}
+use Rattle.model.proofs.Theory.FirstTask.{first-bit, allow-without}
+use Rattle.model.proofs.Theory.Driving.{throughDoor, to-go-by-first, first-door, through-small}
+use mathlib.Core.Bool.{false≢true, or-true}
+use lib.Arith.{digits-lt}
 use Rattle.view.specs.declared.View.{View}
 use Rattle.gather.specs.Gathering.{restAt, partWith, partOf, Gatherable}
+use Rattle.gather.proofs.Passing.{passing-place}
+use Rattle.gather.proofs.Gatherings.{isFirst, first-each}
 use Rattle.row.specs.Leasts.{throughPoint, throughGathered, leastFrom, Gathered}
 use Rattle.table.specs.Cells.{restRows, Shown, Fillable}
 use Rattle.table.proofs.Minimums.{least-mapped}
-use Rattle.model.proofs.Positions.{map-at}
-use Rattle.table.proofs.PassingBelow.{passing-at, passing-place}
 
 -- ---- what is gathered with K open
 
@@ -65,77 +56,84 @@ without-lt S K t e = let b = first-bit S K t e in omega (arith, without-is K t b
 
 -- ---- doors that can come first
 
-module _ (S : Sheet) (K : ℕ) where
-  pub first-at : (i : ℕ) → i < length (firstDoors S K) → (getD (firstDoors S K) i 0 < S .doors) × (canComeFirst S K (S .task (getD (firstDoors S K) i 0)) ≡ true)
-  unfolding firstDoors
-  first-at i l = passing-at (λ d. canComeFirst S K (S .task d)) (S .doors) i l
+pub first-place : (S : Sheet) (K d : ℕ) → d < S .doors → isFirst S K d ≡ true → (i : ℕ) × (i < length (firstDoors S K)) × (getD (firstDoors S K) i 0 ≡ d)
+unfolding firstDoors
+first-place S K d l e = passing-place (isFirst S K) (S .doors) d l e
 
-  pub first-place : (d : ℕ) → d < S .doors → canComeFirst S K (S .task d) ≡ true → (i : ℕ) × (i < length (firstDoors S K)) × (getD (firstDoors S K) i 0 ≡ d)
-  unfolding firstDoors
-  first-place d l e = passing-place (λ d. canComeFirst S K (S .task d)) (S .doors) d l e
+-- ---- a list that is open
 
-module _ (b : List ℕ) (v : View) (F : Fillable b v) (bytes : areBytes b ≡ true)
-    (K : ℕ) (below : K < 2 ^ decode b .tasks) (ess : essential (decode b) K ≡ true)
-    (cells : List ℕ) (room : K * decode b .points ≤ length cells) (known : Shown (decode b) K cells) where
+-- a sheet of bytes that can be planned, an essential list, and cells that show the lists below it
+pub record OpenList (b : List ℕ) (v : View) (K : ℕ) (cells : List ℕ) : Type 0 where
+  pub sheet : Fillable b v
+  pub bytes : areBytes b ≡ true
+  pub list : K < 2 ^ decode b .tasks
+  pub ess : essential (decode b) K ≡ true
+  pub room : K * decode b .points ≤ length cells
+  pub known : Shown (decode b) K cells
+
+module _ {b : List ℕ} {v : View} {K : ℕ} {cells : List ℕ} (O : OpenList b v K cells) where
   -- ---- the cost of the rest
 
   task-lt : (d : ℕ) → d < decode b .doors → decode b .task d < maxTasks
-  task-lt d l = omega (arith, F .plannable .ranges .task d l, F .counts .tasks)
+  task-lt d l = omega (arith, O .sheet .plannable .ranges .task d l, O .sheet .counts .tasks)
 
-  rest-at : (d : ℕ) → d < decode b .doors → restAt (decode b) (restRows (decode b .points) K) 1 d ≡ without K (decode b .task d) * decode b .points + decode b .depart d
+  rest-at : (d : ℕ) → d < decode b .doors
+      → restAt (decode b) (restRows (decode b .points) K) 1 d ≡ without K (decode b .task d) * decode b .points + decode b .depart d
   unfolding restAt restRows
   rest-at d l = rw (mapBelow-at maxTasks (λ t. without K t * decode b .points) (decode b .task d) 0 (task-lt d l)) (omega arith)
 
-  pub rest-is : (d : ℕ) → d < decode b .doors → canComeFirst (decode b) K (decode b .task d) ≡ true
+  pub rest-is : (d : ℕ) → d < decode b .doors → isFirst (decode b) K d ≡ true
       → getD cells (restAt (decode b) (restRows (decode b .points) K) 1 d) 0 ≡ costToGo (decode b) (without K (decode b .task d)) (decode b .depart d)
   rest-is d l e = ap (λ (i : ℕ). getD cells i 0) (rest-at d l)
-      ∙ known (without K (decode b .task d)) (decode b .depart d) (without-lt (decode b) K (decode b .task d) e)
-      (allow-without (decode b) K (decode b .task d) (essential-allowed (decode b) K ess) e) (F .plannable .ranges .depart d l)
+      ∙ O .known (without K (decode b .task d)) (decode b .depart d) (without-lt (decode b) K (decode b .task d) e)
+      (allow-without (decode b) K (decode b .task d) (essential-allowed (decode b) K (O .ess)) e) (O .sheet .plannable .ranges .depart d l)
 
   -- ---- each door
 
   -- the way to the door and its part are the door and the cost to go from where it leads
-  door-is : (p d : ℕ) → d < decode b .doors → canComeFirst (decode b) K (decode b .task d) ≡ true
-      → throughPoint (decode b) (natAbs (load (decode b) K)) p (decode b .arrive d) (partOf (decode b) K cells (restRows (decode b .points) K) 1 d) ≡ throughDoor (decode b) K p d
+  door-is : (p d : ℕ) → d < decode b .doors → isFirst (decode b) K d ≡ true
+      → throughPoint (decode b) (natAbs (load (decode b) K)) p (decode b .arrive d) (partOf (decode b) K cells (restRows (decode b .points) K) 1 d)
+      ≡ throughDoor (decode b) K p d
   unfolding throughPoint partWith partOf throughDoor stepCost
   door-is p d l e = rw (rest-is d l e) (omega arith)
 
   -- no sum needs more than 40 bits
-  sum-small : (p d : ℕ) → d < decode b .doors → canComeFirst (decode b) K (decode b .task d) ≡ true → throughDoor (decode b) K p d < 2 ^ 40
-  sum-small p d l e = through-small b bytes (F .counts) (F .plannable) K p d below l e
+  sum-small : (p d : ℕ) → d < decode b .doors → isFirst (decode b) K d ≡ true → throughDoor (decode b) K p d < 2 ^ 40
+  sum-small p d l e = through-small b (O .bytes) (O .sheet .counts) (O .sheet .plannable) K p d (O .list) l e
 
-  part-le : (p d : ℕ) → d < decode b .doors → canComeFirst (decode b) K (decode b .task d) ≡ true
+  part-le : (p d : ℕ) → d < decode b .doors → isFirst (decode b) K d ≡ true
       → partOf (decode b) K cells (restRows (decode b .points) K) 1 d ≤ throughDoor (decode b) K p d
   unfolding throughPoint
   part-le p d l e = rw (← door-is p d l e) (omega arith)
 
   pub gatherable : Gatherable b v K cells (restRows (decode b .points) K) 1
   unfolding restRows
-  gatherable = record {
-    rules = record { view = F .view; list = below; ruleDoor = λ i l. omega (arith, F .plannable .ranges .ruleDoor i l, F .counts .doors) };
-    doors = F .counts .doors;
+  gatherable = let R = O .sheet .plannable .ranges in record {
+    rules = record { view = O .sheet .view; list = O .list; ruleDoor = λ i l. omega (arith, R .ruleDoor i l, O .sheet .counts .doors) };
+    doors = O .sheet .counts .doors;
     row = λ d l e. rw length-mapBelow (task-lt d l);
-    rest = λ d l e. rw (rest-at d l) (omega (arith, digits-lt (without-lt (decode b) K (decode b .task d) e) (F .plannable .ranges .depart d l)));
+    rest = λ d l e. rw (rest-at d l) (omega (arith, O .room, digits-lt (without-lt (decode b) K (decode b .task d) e) (R .depart d l)));
     fits = λ d l e. omega (arith, part-le 0 d l e, sum-small 0 d l e);
   }
 
-  pub through-is : (p i : ℕ) → i < length (firstDoors (decode b) K) → throughNth (decode b) K cells p i ≡ throughDoor (decode b) K p (getD (firstDoors (decode b) K) i 0)
+  pub through-is : (p i : ℕ) → i < length (firstDoors (decode b) K)
+      → throughNth (decode b) K cells p i ≡ throughDoor (decode b) K p (getD (firstDoors (decode b) K) i 0)
   unfolding throughGathered
   through-is p i l =
-      let d = first-at (decode b) K i l in
-      rw (map-at (decode b .arrive) (firstDoors (decode b) K) i l, map-at (partOf (decode b) K cells (restRows (decode b .points) K) 1) (firstDoors (decode b) K) i l)
+      let d = first-each (decode b) K i l in
+      rw (map-at (decode b .arrive) (firstDoors (decode b) K) i l, map-at (partOf (decode b) K cells _ 1) (firstDoors (decode b) K) i l)
       (door-is p (getD (firstDoors (decode b) K) i 0) (d .0) (d .1))
 
   pub gathered : Gathered b v (natAbs (load (decode b) K)) (arrivals (decode b) K) (parts (decode b) K cells)
   gathered = record {
-    view = F .view;
+    view = O .sheet .view;
     same = simp length-map;
     arrival = λ i l.
         let m : i < length (firstDoors (decode b) K) = rw length-map at l in
-        rw (map-at (decode b .arrive) (firstDoors (decode b) K) i m) (F .plannable .ranges .arrive _ (first-at (decode b) K i m .0));
+        rw (map-at (decode b .arrive) (firstDoors (decode b) K) i m) (O .sheet .plannable .ranges .arrive _ (first-each (decode b) K i m .0));
     fits = λ p i q l.
         let m : i < length (firstDoors (decode b) K) = rw length-map at l in
-        let d = first-at (decode b) K i m in
+        let d = first-each (decode b) K i m in
         rw (through-is p i m) (omega (arith, sum-small p (getD (firstDoors (decode b) K) i 0) (d .0) (d .1)));
   }
 
@@ -144,14 +142,15 @@ module _ (b : List ℕ) (v : View) (F : Fillable b v) (bytes : areBytes b ≡ tr
   -- some door can come first
   pub some-first : 0 < length (firstDoors (decode b) K)
   some-first =
-      let k = essential-size (decode b) K below ess in
-      let f : FirstDoor (decode b) (F .plannable) K 0 below (k .0) (k .1) = first-door (decode b) (F .plannable) K 0 below (k .0) (k .1) in
+      let k = essential-size (decode b) K (O .list) (O .ess) in
+      let f = first-door (decode b) (O .sheet .plannable) K 0 (O .list) (k .0) (k .1) in
       omega (arith, first-place (decode b) K (f .door) (f .in-sheet) (f .can) .1)
 
-  pub row-is : (p : ℕ) → p < decode b .points → leastFrom (decode b) (natAbs (load (decode b) K)) (arrivals (decode b) K) (parts (decode b) K cells) p ≡ costToGo (decode b) K p
+  pub row-is : (p : ℕ) → p < decode b .points
+      → leastFrom (decode b) (natAbs (load (decode b) K)) (arrivals (decode b) K) (parts (decode b) K cells) p ≡ costToGo (decode b) K p
   unfolding leastFrom
   row-is p point =
-      let k = essential-size (decode b) K below ess in
+      let k = essential-size (decode b) K (O .list) (O .ess) in
       rw length-map (least-mapped _ (throughDoor (decode b) K p) (firstDoors (decode b) K) some-first (through-is p)
-      (λ i l. let d = first-at (decode b) K i l in omega (arith, sum-small p (getD (firstDoors (decode b) K) i 0) (d .0) (d .1)))
-      ∙ sym (to-go-by-first (decode b) (F .plannable) K p below (k .0) (k .1)))
+      (λ i l. let d = first-each (decode b) K i l in omega (arith, sum-small p (getD (firstDoors (decode b) K) i 0) (d .0) (d .1)))
+      ∙ sym (to-go-by-first (decode b) (O .sheet .plannable) K p (O .list) (k .0) (k .1)))

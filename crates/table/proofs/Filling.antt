@@ -1,27 +1,18 @@
 -- The cells while the table is filled: none done, a row more, and all done; and what is shown by then. Assumes nothing.
-use mathlib.Core.Path.{_≡_, refl, sym, ap, ap₂, _∙_}
-use mathlib.Core.Logic.{_≢_, ⊎-elim}
-use mathlib.Core.Bool.{Bool, true, false, cond, _&&_, and-false, or-true}
-use mathlib.Core.List.{List, _++_}
-use Prim.Native.Nat.{ℕ, _+_, _-_, _*_, _/_, _%_, _^_, _≤_, _<_}
-use native.Mathlib.Nat.{le-div-iff-mul-le, div-lt-iff-lt-mul, zero-mul}
-use native.Mathlib.Omega.{arith}
-use lib.Arith.{digits-lt, digits-div, digits-mod}
-use lib.Dec.{eqb, ltb}
-use lib.ListN.{length, getD, take, drop, length-append, List·getD-append}
-use lib.Seq.{getD-take, getD-drop, getD-append-add, length-take-le, ext-getD}
-use borrow.Author.Tests.{eqb-true, eqb-false, ne-eqb, ltb-true, ltb-false, lt-ltb, le-ltb, le-leb}
-use Rattle.model.specs.Folds.{mapBelow}
+use Rattle.model.proofs.Basics.{_≡_, refl, sym, ap, ap₂, _∙_, _≢_, ⊎-elim, Bool, true, false, cond, _&&_, List, _++_, ℕ, _+_, _-_, _*_, _/_}
+use Rattle.model.proofs.Basics.{_%_, _^_, _≤_, _<_, arith, eqb, ltb, length, getD, take, drop, length-append, List·getD-append}
+use Rattle.model.proofs.Basics.{length-take-le, ext-getD, getD-take, eqb-true, eqb-false, ne-eqb, ltb-true, ltb-false, lt-ltb, le-ltb}
+use Rattle.model.proofs.Basics.{le-leb, mul-le-mul-right, pow-pos}
+use Rattle.model.specs.{mapBelow, essential, pairsAllow, costToGo, overwrite, overwriteAt, cellAfter, cellsAfter, InRange}
 use Rattle.model.specs.Sheet.{Sheet}
-use Rattle.model.specs.Orders.{essential, pairsAllow}
-use Rattle.model.specs.Plans.{costToGo}
-use Rattle.model.specs.Bytes.{overwrite, overwriteAt}
-use Rattle.model.specs.Planning.{cellAfter, cellsAfter}
-use Rattle.model.proofs.Tests.{tested, same-test, or-neither}
-use Rattle.model.proofs.Folds.{length-mapBelow, mapBelow-at}
-use Rattle.model.proofs.Overwriting.{length-over, over-front}
-use Rattle.model.specs.Passing.{InRange}
-use Rattle.model.proofs.Completions.{to-go-none}
+use Rattle.model.proofs.Tools.Tests.{tested, same-test, or-neither}
+use Rattle.model.proofs.Tools.Folds.{length-mapBelow, mapBelow-at}
+use Rattle.model.proofs.Theory.Completions.{to-go-none}
+use Rattle.model.proofs.Bytes.Overwriting.{length-over, over-front}
+use mathlib.Core.Bool.{and-false, or-true}
+use native.Mathlib.Nat.{le-div-iff-mul-le, div-lt-iff-lt-mul, zero-mul, one-mul}
+use lib.Arith.{digits-lt, digits-div, digits-mod}
+use lib.Seq.{getD-drop, getD-append-add}
 use Rattle.table.specs.Cells.{cellBelow, cellsBelow, Shown}
 use Rattle.table.proofs.Parts.{map-cong-below}
 
@@ -82,14 +73,13 @@ module _ (S : Sheet) where
   -- what was done before is done over
   cell-again : (j k i x : ℕ) → j ≤ k → cellBelow S k i (cellBelow S j i x) ≡ cellBelow S k i x
   unfolding cellBelow
-  cell-again j k i x l = ⊎-elim
-      (λ (w : (ltb (i / S .points) k && pairsAllow S (i / S .points)) ≡ true). rw w)
-      (λ (w : (ltb (i / S .points) k && pairsAllow S (i / S .points)) ≡ false). rw w (ap (λ (t : Bool). cond t (costToGo S (i / S .points) (i % S .points)) x) (earlier (ltb (i / S .points) k) refl w)))
-      (tested (ltb (i / S .points) k && pairsAllow S (i / S .points)))
+  cell-again j k i x l = again (ltb (i / S .points) k) (ltb (i / S .points) j) (pairsAllow S (i / S .points)) (costToGo S (i / S .points) (i % S .points))
+      (λ e. let b = ltb-false (i / S .points) k e in le-ltb (i / S .points) j (omega arith))
     where
-      earlier : (t : Bool) → ltb (i / S .points) k ≡ t → (t && pairsAllow S (i / S .points)) ≡ false → (ltb (i / S .points) j && pairsAllow S (i / S .points)) ≡ false
-      earlier true e a = rw (a, and-false)
-      earlier false e a = let b = ltb-false (i / S .points) k e in rw (le-ltb (i / S .points) j (omega arith))
+      again : (later early a : Bool) (c : ℕ) → (later ≡ false → early ≡ false) → cond (later && a) c (cond (early && a) c x) ≡ cond (later && a) c x
+      again true early true c h = refl
+      again true early false c h = rw and-false
+      again false early a c h = rw (h refl)
 
 module _ (S : Sheet) (cells : List ℕ) where
   cell-at : (k i : ℕ) → i < length cells → getD (cellsBelow S k cells) i 0 ≡ cellBelow S k i (getD cells i 0)
@@ -111,8 +101,8 @@ module _ (S : Sheet) (cells : List ℕ) where
   all-done = refl
 
   -- the row of the next list, written where it belongs
-  pub row-done : (k : ℕ) → 0 < S .points → (k + 1) * S .points ≤ length cells → pairsAllow S k ≡ true → (row : List ℕ) → row ≡ mapBelow (S .points) (costToGo S k)
-      → overwriteAt (k * S .points) row (cellsBelow S k cells) ≡ cellsBelow S (k + 1) cells
+  pub row-done : (k : ℕ) → 0 < S .points → (k + 1) * S .points ≤ length cells → pairsAllow S k ≡ true → (row : List ℕ)
+      → row ≡ mapBelow (S .points) (costToGo S k) → overwriteAt (k * S .points) row (cellsBelow S k cells) ≡ cellsBelow S (k + 1) cells
   row-done k some room a row e = ext-getD 0 _ _ (length-over (k * S .points) row (cellsBelow S k cells) ∙ length-done k ∙ sym (length-done (k + 1)))
       (λ i l. let m : i < length cells = rw (length-over, length-done) at l in one i m ∙ sym (cell-at (k + 1) i m))
     where
@@ -126,7 +116,8 @@ module _ (S : Sheet) (cells : List ℕ) where
       one i m = ⊎-elim
           (λ (w : ltb i (k * S .points) ≡ true).
           let l : i < k * S .points = ltb-true i (k * S .points) w in
-          over-below (k * S .points) row (cellsBelow S k cells) fits i l ∙ cell-at k i m ∙ cell-same S k i _ (λ q. omega (arith, div-lt-iff-lt-mul some .1 l)))
+          over-below (k * S .points) row (cellsBelow S k cells) fits i l ∙ cell-at k i m
+          ∙ cell-same S k i _ (λ q. omega (arith, div-lt-iff-lt-mul some .1 l)))
           (λ (w : ltb i (k * S .points) ≡ false). ⊎-elim
           (λ (v : ltb i ((k + 1) * S .points) ≡ true).
           let j : ℕ = i - k * S .points in
@@ -171,7 +162,8 @@ module _ (S : Sheet) (cells : List ℕ) where
   done-again j k l = ext-getD 0 _ _ (length-done S (cellsBelow S j cells) k ∙ length-done S cells j ∙ sym (length-done S cells k)) (λ i m.
       let n : i < length (cellsBelow S j cells) = rw length-done at m in
       let o : i < length cells = rw length-done at n in
-      cell-at S (cellsBelow S j cells) k i n ∙ ap (cellBelow S k i) (cell-at S cells j i o) ∙ cell-again S j k i (getD cells i 0) l ∙ sym (cell-at S cells k i o))
+      cell-at S (cellsBelow S j cells) k i n ∙ ap (cellBelow S k i) (cell-at S cells j i o)
+      ∙ cell-again S j k i (getD cells i 0) l ∙ sym (cell-at S cells k i o))
 
   -- the end costs are the row of the empty list
   pub ends-done : InRange S → {n : ℕ} {row : List ℕ} → 0 < S .points → S .points ≤ length cells → n ≡ S .points → row ≡ mapBelow (S .points) (S .endCost)
@@ -184,34 +176,68 @@ module _ (S : Sheet) (cells : List ℕ) where
       ∙ ap₂ (λ (a : ℕ) (l : List ℕ). overwriteAt a row l) (sym (zero-mul (S .points))) (sym (none-done S cells))
       ∙ row-done S cells 0 some (omega arith) refl row (h ∙ map-cong-below (S .points) _ _ (λ p l. sym (to-go-none S R p)))
 
-  -- X: the cells with the end costs written
-  module _ {X : List ℕ} (e : X ≡ cellsBelow S 1 cells) where
-    pub ends-stay : X ≡ cellsBelow S 1 X
-    ends-stay = e ∙ sym (done-again 1 1 (omega arith)) ∙ ap (cellsBelow S 1) (sym e)
+  -- there is room for the first row
+  pub first-held : 2 ^ S .tasks * S .points ≤ length cells → S .points ≤ length cells
+  first-held room =
+      let one : 1 ≤ 2 ^ S .tasks = pow-pos (S .tasks) in
+      omega (arith, mul-le-mul-right (S .points) one, one-mul (S .points))
 
-    pub as-many : length X ≡ length cells
-    as-many = ap length e ∙ length-done S cells 1
+-- ---- the loop over the lists
 
-    -- the lists done from there on are done from the beginning
-    pub from-ends : (k : ℕ) {l : List ℕ} → 1 ≤ k → l ≡ cellsBelow S k X → l ≡ cellsBelow S k cells
-    from-ends k some h = h ∙ ap (cellsBelow S k) e ∙ done-again 1 k some
+-- X: the cells where the loop begins; l: those cells with the lists below k done, of as many lists as the sheet has
+pub record Filling (S : Sheet) (X : List ℕ) (lists : ℕ) (l : List ℕ) (k : ℕ) : Type 0 where
+  pub some : 1 ≤ k
+  pub within : k ≤ lists
+  pub all : lists ≡ 2 ^ S .tasks
+  pub room : 2 ^ S .tasks * S .points ≤ length X
+  pub is : l ≡ cellsBelow S k X
 
--- ---- a turn of the loop
+-- it begins with the end costs written
+module _ (S : Sheet) (cells : List ℕ) {X : List ℕ} (e : X ≡ cellsBelow S 1 cells) where
+  as-many : length X ≡ length cells
+  as-many = ap length e ∙ length-done S cells 1
 
--- X: the cells where the loop began; l: the cells with the lists below k done
-module _ (S : Sheet) (X : List ℕ) (k : ℕ) {l : List ℕ} (h : l ≡ cellsBelow S k X) (some : 0 < S .points) (room : (k + 1) * S .points ≤ length X) where
+  pub begin : {lists : ℕ} → lists ≡ 2 ^ S .tasks → 2 ^ S .tasks * S .points ≤ length cells → Filling S X lists X 1
+  begin n room = record {
+    some = omega arith;
+    within = omega (arith, pow-pos (S .tasks));
+    all = n;
+    room = rw as-many room;
+    is = e ∙ sym (done-again S cells 1 1 (omega arith)) ∙ ap (cellsBelow S 1) (sym e);
+  }
+
+  module _ {lists k : ℕ} {l : List ℕ} (h : Filling S X lists l k) where
+    pub same-many : length l ≡ length cells
+    same-many = ap length (h .is) ∙ length-done S X k ∙ as-many
+
+    -- and ends with all lists done: those done from the end costs on are done from the beginning
+    pub finish : lists ≤ k → l ≡ cellsAfter S cells
+    finish d =
+        let q : k ≡ 2 ^ S .tasks = omega (arith, h .within, h .all) in
+        h .is ∙ ap (cellsBelow S k) e ∙ done-again S cells 1 k (h .some) ∙ ap (λ (j : ℕ). cellsBelow S j cells) q ∙ all-done S cells
+
+-- a turn of it
+module _ {S : Sheet} {X l : List ℕ} {lists k : ℕ} (h : Filling S X lists l k) (point : 0 < S .points) (more : k < lists) where
+  row-room : (k + 1) * S .points ≤ length X
+  row-room = let n : k + 1 ≤ 2 ^ S .tasks = omega (arith, h .all) in omega (arith, mul-le-mul-right (S .points) n, h .room)
+
   pub known-so : Shown S k l
-  known-so = rw h (shown S X k some (omega (arith, room)))
+  known-so = rw (h .is) (shown S X k point (omega (arith, row-room)))
 
   pub room-so : (k + 1) * S .points ≤ length l
-  room-so = rw (h, length-done) room
+  room-so = rw (h .is, length-done) row-room
+
+  next : {new : List ℕ} → new ≡ cellsBelow S (k + 1) X → Filling S X lists new (k + 1)
+  next e = record { some = omega arith; within = omega arith; all = h .all; room = h .room; is = e }
 
   -- an essential list, whose row was written
-  pub row-next : {new : List ℕ} → essential S k ≡ true → new ≡ overwriteAt (k * S .points) (mapBelow (S .points) (costToGo S k)) l → new ≡ cellsBelow S (k + 1) X
+  pub row-next : {new : List ℕ} → essential S k ≡ true → new ≡ overwriteAt (k * S .points) (mapBelow (S .points) (costToGo S k)) l
+      → Filling S X lists new (k + 1)
   unfolding pairsAllow
-  row-next e q = q ∙ ap (overwriteAt (k * S .points) (mapBelow (S .points) (costToGo S k))) h ∙ row-done S X k some room (rw (e, or-true)) _ refl
+  row-next e q = next (q ∙ ap (overwriteAt (k * S .points) (mapBelow (S .points) (costToGo S k))) (h .is)
+      ∙ row-done S X k point row-room (rw (e, or-true)) _ refl)
 
   -- a list that is neither essential nor empty
-  pub pass-next : essential S k ≡ false → 1 ≤ k → l ≡ cellsBelow S (k + 1) X
+  pub pass-next : {new : List ℕ} → essential S k ≡ false → new ≡ l → Filling S X lists new (k + 1)
   unfolding pairsAllow
-  pass-next e o = h ∙ row-passed S X k (or-neither (ne-eqb k 0 (λ z. omega arith)) e)
+  pass-next e q = next (q ∙ h .is ∙ row-passed S X k (or-neither (ne-eqb k 0 (λ z. omega (arith, h .some))) e))

@@ -1,6 +1,5 @@
 pub mod Parts
 pub mod Filling
-pub mod PassingBelow
 pub mod Minimums
 pub mod Bellman
 pub mod ListRows

@@ -1,54 +1,75 @@
--- The row of one list, from what the calls of the code leave: the rows of the rest, the load, and the arrays that were gathered. Assumes nothing.
-use mathlib.Core.Path.{_≡_, sym, ap, _∙_}
-use mathlib.Core.Bool.{true}
-use mathlib.Core.List.{List, map}
-use Prim.Native.Nat.{ℕ, _*_, _^_, _≤_, _<_}
-use lib.IntN.{pos, natAbs}
-use lib.ListN.{length, take, length-map}
-use lib.Pow.{areBytes}
-use Rattle.model.specs.Folds.{mapBelow}
-use Rattle.model.specs.Bytes.{overwrite}
-use Rattle.model.specs.Orders.{essential}
-use Rattle.model.specs.Cost.{load}
-use Rattle.model.specs.Plans.{costToGo}
-use Rattle.model.specs.Method.{firstDoors}
-use Rattle.model.specs.SheetLayout.{decode}
+-- What the code has with one list open: the rows of the rest, the load, and the arrays that were gathered. These are what a row and a search ask, and the row
+-- is that of the costs to go. Assumes nothing.
+use Rattle.model.proofs.Basics.{_≡_, sym, ap, _∙_, List, map, ℕ, _≤_, _<_, arith, T, length, getD, take, drop, length-map, List·getD-append}
+use Rattle.model.proofs.Basics.{pos, natAbs}
+use Rattle.model.specs.{mapBelow, overwrite, load, costToGo, firstDoors, maxDoors, decode}
+use Rattle.model.specs.Sheet.{Sheet}
+use lib.Signed.{nonNeg}
 use Rattle.view.specs.declared.View.{View}
 use Rattle.view.proofs.Counted.{points-are}
 use Rattle.gather.specs.Gathering.{partOf, Gatherable}
 use Rattle.row.specs.Leasts.{leastFrom, Gathered}
-use Rattle.table.specs.Cells.{restRows, Shown, Fillable}
-use Rattle.table.proofs.Parts.{front-is, map-cong-below}
-use Rattle.table.proofs.Bellman.{arrivals, parts, gatherable, gathered, row-is}
+use Rattle.table.specs.Cells.{restRows}
+use Rattle.table.proofs.Parts.{front-is, front-there, map-cong-below}
+use Rattle.table.proofs.Bellman.{arrivals, parts, OpenList, gatherable, gathered, row-is}
 
-module _ (b : List ℕ) (v : View) (F : Fillable b v) (bytes : areBytes b ≡ true) (K : ℕ) (below : K < 2 ^ decode b .tasks) (ess : essential (decode b) K ≡ true)
-    (cells : List ℕ) (room : K * decode b .points ≤ length cells) (known : Shown (decode b) K cells)
-    (rows : List ℕ) (where-rows : rows ≡ restRows (v .points) K) where
-  rows-are : rows ≡ restRows (decode b .points) K
-  rows-are = where-rows ∙ ap (λ (n : ℕ). restRows n K) (points-are (F .view))
+-- ---- an array with a list in front
 
-  -- what gathering asks
-  pub asked : Gatherable b v K cells rows 1
-  asked = rw rows-are (gatherable b v F bytes K below ess cells room known)
+pub record InFront (xs : List ℕ) (m : ℕ) (ys : List ℕ) : Type 0 where
+  pub fits : m ≤ length ys
+  pub is : take m ys ≡ xs
+  pub at : (i : ℕ) → i < m → getD ys i 0 ≡ getD xs i 0
 
-  -- what it leaves at the fronts of the arrays, m elements, and the load
-  module _ (m r : ℕ) (count : m ≡ length (firstDoors (decode b) K)) (weight : pos r ≡ load (decode b) K)
-      (x y : List ℕ) (x₀ y₀ : List ℕ) (to : x ≡ overwrite (map (decode b .arrive) (firstDoors (decode b) K)) x₀)
-      (rest : y ≡ overwrite (map (partOf (decode b) K cells rows 1) (firstDoors (decode b) K)) y₀) where
-    pub arrivals-are : take m x ≡ arrivals (decode b) K
-    arrivals-are = front-is _ x₀ to (count ∙ sym (length-map (firstDoors (decode b) K) (decode b .arrive)))
+in-front : (xs rest ys : List ℕ) (m : ℕ) → ys ≡ overwrite xs rest → m ≡ length xs → InFront xs m ys
+unfolding overwrite
+in-front xs rest ys m e h = record {
+  fits = front-there xs rest e h;
+  is = front-is xs rest e h;
+  at = λ i l. let k : i < length xs = omega arith in rw e (List·getD-append xs (drop (length xs) rest) 0 i k);
+}
 
-    pub parts-are : take m y ≡ parts (decode b) K cells
-    parts-are = front-is _ y₀ rest (count ∙ sym (length-map (firstDoors (decode b) K) (partOf (decode b) K cells rows 1)))
-        ∙ ap (λ (l : List ℕ). map (partOf (decode b) K cells l 1) (firstDoors (decode b) K)) rows-are
+-- when the doors are gathered: the load w, their count m, and the three arrays
+pub record Holding (S : Sheet) (K : ℕ) (cells : List ℕ) (w m : ℕ) (doors arrives costs : List ℕ) : Type 0 where
+  pub load-is : w ≡ natAbs (load S K)
+  pub count : m ≡ length (firstDoors S K)
+  pub door : InFront (firstDoors S K) m doors
+  pub arrival : InFront (arrivals S K) m arrives
+  pub part : InFront (parts S K cells) m costs
 
-    load-is : r ≡ natAbs (load (decode b) K)
-    load-is = ap natAbs weight
+module _ {b : List ℕ} {v : View} {K : ℕ} {cells : List ℕ} (O : OpenList b v K cells) where
+  pub load-asks : T (nonNeg (load (decode b) K))
+  load-asks = O .sheet .loads K (O .list) (O .ess)
 
-    -- is what a row asks
-    pub given : Gathered b v r (take m x) (take m y)
-    given = rw (arrivals-are, parts-are, load-is) (gathered b v F bytes K below ess cells room known)
+  -- rows: where the code has the rows of the rest begin
+  module _ {rows : List ℕ} (begin : rows ≡ restRows (v .points) K) where
+    rows-are : rows ≡ restRows (decode b .points) K
+    rows-are = begin ∙ ap (λ (n : ℕ). restRows n K) (points-are (O .sheet .view))
+
+    pub gather-asks : Gatherable b v K cells rows 1 × ((decode b .doors ≤ maxDoors) × (decode b .doors ≤ maxDoors) × (decode b .doors ≤ maxDoors))
+    gather-asks = let d = O .sheet .counts .doors in (rw rows-are (gatherable O), (d, d, d))
+
+    -- what the load and gathering leave; x, y and z are what the arrays held before
+    pub hold : {w m : ℕ} {doors arrives costs : List ℕ} (x y z : List ℕ) → pos w ≡ load (decode b) K
+        → (m ≡ length (firstDoors (decode b) K)) × ((doors ≡ overwrite (firstDoors (decode b) K) x)
+        × ((arrives ≡ overwrite (map (decode b .arrive) (firstDoors (decode b) K)) y)
+        × (costs ≡ overwrite (map (partOf (decode b) K cells rows 1) (firstDoors (decode b) K)) z)))
+        → Holding (decode b) K cells w m doors arrives costs
+    hold {w} {m} {doors} {arrives} {costs} x y z weight e = record {
+      load-is = ap natAbs weight;
+      count = e .0;
+      door = in-front (firstDoors (decode b) K) x doors m (e .1 .0) (e .0);
+      arrival = in-front (arrivals (decode b) K) y arrives m (e .1 .1 .0) (e .0 ∙ sym (length-map (firstDoors (decode b) K) _));
+      part = in-front (parts (decode b) K cells) z costs m
+          (e .1 .1 .1 ∙ ap (λ (r : List ℕ). overwrite (map (partOf (decode b) K cells r 1) (firstDoors (decode b) K)) z) rows-are)
+          (e .0 ∙ sym (length-map (firstDoors (decode b) K) _));
+    }
+
+  module _ {w m : ℕ} {doors arrives costs : List ℕ} (h : Holding (decode b) K cells w m doors arrives costs) where
+    -- that is what a row asks
+    pub given : Gathered b v w (take m arrives) (take m costs)
+    given = rw (h .load-is, h .arrival .is, h .part .is) (gathered O)
 
     -- and the row is that of the costs to go
-    pub row-of : {row : List ℕ} → row ≡ mapBelow (decode b .points) (leastFrom (decode b) r (take m x) (take m y)) → row ≡ mapBelow (decode b .points) (costToGo (decode b) K)
-    row-of e = e ∙ map-cong-below (decode b .points) _ _ (λ p l. rw (arrivals-are, parts-are, load-is) (row-is b v F bytes K below ess cells room known p l))
+    pub row-of : {row : List ℕ} → row ≡ mapBelow (decode b .points) (leastFrom (decode b) w (take m arrives) (take m costs))
+        → row ≡ mapBelow (decode b .points) (costToGo (decode b) K)
+    row-of e = e ∙ map-cong-below (decode b .points) _ _ (λ p l. rw (h .load-is, h .arrival .is, h .part .is) (row-is O p l))

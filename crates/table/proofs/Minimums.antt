@@ -1,12 +1,9 @@
 -- The least over the numbers below n is the least of a list, taken from either end. Assumes nothing.
-use mathlib.Core.Path.{_≡_, refl, sym, ap, ap₂, _∙_}
-use mathlib.Core.List.{List, [], _∷_, map}
-use Prim.Native.Nat.{ℕ, zero, suc, _≤_, _<_, min}
-use native.Mathlib.Omega.{arith}
-use lib.ListN.{length, getD, length-map}
-use Rattle.model.specs.Folds.{least}
+use Rattle.model.proofs.Basics.{_≡_, refl, sym, ap, ap₂, _∙_, List, [], _∷_, map, ℕ, zero, suc, _≤_, _<_, min, arith, length, getD}
+use Rattle.model.proofs.Basics.{length-map}
+use Rattle.model.specs.{least}
+use Rattle.model.proofs.Tools.Positions.{map-at}
 use Rattle.row.specs.Leasts.{largest, leastBelow}
-use Rattle.model.proofs.Positions.{map-at}
 
 pub least-cong : (n : ℕ) (f g : ℕ → ℕ) → ((i : ℕ) → i < n → f i ≡ g i) → leastBelow n f ≡ leastBelow n g
 least-cong zero f g h = refl
@@ -25,8 +22,8 @@ least-below (x ∷ y ∷ ys) some h = least-first (length (y ∷ ys)) (λ i. get
     ∙ ap (min x) (least-below (y ∷ ys) (omega arith) (λ i l. h (suc i) (omega arith)))
 
 -- the same where f i is g of the i-th element
-pub least-mapped : (f g : ℕ → ℕ) (xs : List ℕ) → 0 < length xs → ((i : ℕ) → i < length xs → f i ≡ g (getD xs i 0)) → ((i : ℕ) → i < length xs → g (getD xs i 0) ≤ largest)
-    → leastBelow (length xs) f ≡ least (map g xs)
+pub least-mapped : (f g : ℕ → ℕ) (xs : List ℕ) → 0 < length xs → ((i : ℕ) → i < length xs → f i ≡ g (getD xs i 0))
+    → ((i : ℕ) → i < length xs → g (getD xs i 0) ≤ largest) → leastBelow (length xs) f ≡ least (map g xs)
 least-mapped f g xs some same small =
     let e : length (map g xs) ≡ length xs = length-map xs g in
     least-cong (length xs) f (λ i. getD (map g xs) i 0) (λ i l. same i l ∙ sym (map-at g xs i l))

@@ -1,59 +1,47 @@
--- The plan that bytes hold: in hand it has its doors and its cost, and its lines stand one behind the other. Assumes nothing.
-use mathlib.Core.Path.{_≡_, sym, ap, _∙_}
-use mathlib.Core.List.{List, _++_, append-assoc}
-use Prim.Native.Nat.{ℕ, _+_, _*_, _^_, _≤_, _<_}
-use native.Mathlib.Omega.{arith}
-use lib.ListN.{length, take, length-append}
-use lib.Seq.{length-take-le}
-use Rattle.model.specs.Plans.{planCost}
-use Rattle.model.specs.SheetLayout.{decode}
-use Rattle.model.specs.PlanLayout.{maxPlanDoors, startIn, doorsIn, costIn}
-use Rattle.model.specs.PlanInHand.{PlanInHand, inHand}
-use Rattle.model.specs.Printing.{ascii, decimal, lineEnd, stepLines, planLines}
-use Rattle.model.proofs.InHand.{read-holds, in-hand-doors, in-hand-cost}
-use Rattle.text.specs.Lines.{labelled, lineOf, maxDigits, maxStep, maxText, Laid}
+-- The plan that bytes hold: in hand it has its doors and its cost, and the lines of its steps stand behind those of cost and start. Assumes nothing.
+use Rattle.model.proofs.Basics.{_≡_, sym, ap, _∙_, List, _++_, ℕ, _+_, _*_, _^_, _≤_, _<_, arith, length, take, length-take-le}
+use Rattle.model.specs.{planCost, decode, maxPlanDoors, startIn, doorsIn, costIn, inHand, stepLines, planLines}
+use Rattle.model.specs.PlanInHand.{PlanInHand}
+use Rattle.model.proofs.Bytes.InHand.{read-holds, in-hand-doors, in-hand-cost}
+use Rattle.lines.specs.Lines.{headLines, maxStep, maxText, Laid}
+use Rattle.lines.proofs.Laying.{behind, laid-on, laid-as, head-is, long-head}
 use Rattle.text.specs.Steps.{Steps, planIn, Printable}
-use Rattle.text.proofs.Laying.{behind, laid-on, long-line}
 
-regroup : (a b c d e f g : List ℕ) → (a ++ b ++ c) ++ (d ++ e ++ f) ++ g ≡ a ++ b ++ c ++ d ++ e ++ f ++ g
-regroup a b c d e f g = simp append-assoc
+-- the plan x of n tasks is what the bytes q hold for the sheet b, and can be printed
+pub record Held (b q : List ℕ) (n : ℕ) (x : PlanInHand) : Type 0 where
+  pub printable : Printable b q
+  pub tasks : n ≡ decode b .tasks
+  pub hand : x ≡ inHand n q
 
-module _ {b q : List ℕ} (H : Printable b q) {n : ℕ} {x : PlanInHand} (en : n ≡ decode b .tasks) (ex : x ≡ inHand n q) where
+module _ {b q : List ℕ} {n : ℕ} {x : PlanInHand} (h : Held b q n x) where
   few : n ≤ maxPlanDoors
-  few = rw en (H .steps .few)
+  few = rw (h .tasks) (h .printable .steps .few)
 
   pub in-array : n ≤ length (x .doors)
-  in-array = rw (ex, read-holds n q few .size) few
+  in-array = rw (h .hand, read-holds n q few .size) few
 
   pub as-many-doors : n ≡ length (take n (x .doors))
   as-many-doors = sym (length-take-le n (x .doors) in-array)
 
   doors-are : take n (x .doors) ≡ planIn b q .doors
   unfolding planIn
-  doors-are = ap (λ (y : PlanInHand). take n (y .doors)) ex ∙ in-hand-doors n q few ∙ ap (λ (m : ℕ). doorsIn m q) en
+  doors-are = ap (λ (y : PlanInHand). take n (y .doors)) (h .hand) ∙ in-hand-doors n q few ∙ ap (λ (m : ℕ). doorsIn m q) (h .tasks)
 
   cost-is : x .cost ≡ planCost (decode b) (planIn b q)
-  cost-is = ap (λ (y : PlanInHand). y .cost) ex ∙ in-hand-cost n q few ∙ ap (λ (m : ℕ). costIn m q) en ∙ H .right
+  cost-is = ap (λ (y : PlanInHand). y .cost) (h .hand) ∙ in-hand-cost n q few ∙ ap (λ (m : ℕ). costIn m q) (h .tasks) ∙ h .printable .right
 
   pub steps : Steps b (take n (x .doors))
-  steps = rw doors-are (H .steps)
+  steps = rw doors-are (h .printable .steps)
 
-  -- the lines of cost and start, and room behind them
-  module _ {a b₁ : List ℕ} {e₁ : ℕ} (cost : Laid 0 (lineOf (ascii "cost ") (x .cost)) a b₁ e₁) where
-    pub start-room : maxText ≤ length a → x .cost < 2 ^ 64 → e₁ + 6 + maxDigits + 1 ≤ length b₁
-    start-room room h = omega (arith, behind cost (6 + maxDigits + 1) (omega (arith, long-line (ascii "cost ") (x .cost) h)))
+  -- behind the lines of cost and start there is room for the steps, and with them they are those of the plan
+  module _ {s : ℕ} {a c : List ℕ} {m : ℕ} (head : Laid 0 (headLines (x .cost) s) a c m) where
+    pub steps-room : maxText ≤ length a → x .cost < 2 ^ 64 → s < 2 ^ 64 → m + maxStep * maxPlanDoors ≤ length c
+    steps-room room k l = behind head (maxStep * maxPlanDoors) (omega (arith, long-head (x .cost) s k l))
 
-    module _ {s : ℕ} {b₂ : List ℕ} {e₂ : ℕ} (start : Laid e₁ (lineOf (ascii "start ") s) b₁ b₂ e₂) where
-      pub steps-room : maxText ≤ length a → x .cost < 2 ^ 64 → s < 2 ^ 64 → e₂ + maxStep * maxPlanDoors ≤ length b₂
-      steps-room room h l = behind (laid-on cost start) (maxStep * maxPlanDoors)
-          (simp length-append (omega (arith, long-line (ascii "cost ") (x .cost) h, long-line (ascii "start ") s l)))
+    plan-is : s ≡ startIn q → planLines (decode b) (planIn b q) ≡ headLines (x .cost) s ++ stepLines (decode b) (take n (x .doors))
+    unfolding planLines planIn
+    plan-is e = rw (cost-is, e, doors-are) (ap (λ xs. xs ++ stepLines (decode b) (planIn b q .doors)) (sym (head-is _ (startIn q))))
 
-      -- and the lines of the steps behind them
-      pub plan-laid : {b₃ : List ℕ} {e₃ : ℕ} → s ≡ startIn q → Laid e₂ (stepLines (decode b) (take n (x .doors))) b₂ b₃ e₃ → Laid 0 (planLines (decode b) (planIn b q)) a b₃ e₃
-      unfolding planLines lineOf labelled planIn
-      plan-laid es lines = rw (
-        ← regroup (ascii "cost ") (decimal (planCost (decode b) (planIn b q))) lineEnd (ascii "start ") (decimal (startIn q)) lineEnd (stepLines (decode b) (planIn b q .doors)),
-        ← cost-is,
-        ← es,
-        ← doors-are,
-      ) (laid-on (laid-on cost start) lines)
+    pub plan-laid : {d : List ℕ} {e : ℕ} → s ≡ startIn q
+        → Laid m (stepLines (decode b) (take n (x .doors))) c d e → Laid 0 (planLines (decode b) (planIn b q)) a d e
+    plan-laid e lines = laid-as (plan-is e) (laid-on head lines)

@@ -1,4 +1,3 @@
-pub mod Laying
 pub mod Stepping
 pub mod Holding
 pub mod Answered

@@ -4,11 +4,10 @@ ghost use Prim.Native.Nat.{_+_, _*_, _≤_};
 ghost use lib.ListN.{length};
 ghost use Rattle.model.specs.SheetLayout.{decode};
 ghost use Rattle.model.specs.PlanLayout.{maxPlanDoors};
-ghost use Rattle.model.specs.Printing.{stepLine, stepLines, planLines, printedWith, print};
+ghost use Rattle.model.specs.Printing.{stepLines, planLines, printedWith, print};
 ghost use Rattle.view.specs.Views.{viewOf};
-ghost use Rattle.text.specs.Lines.{labelled, lineOf, maxDigits, maxStep, maxText, Laid};
+ghost use Rattle.lines.specs.Lines.{maxStep, maxText, Laid};
 ghost use Rattle.text.specs.Steps.{Steps, planIn, Printable};
-use decimal::put_number;
 use decimal::put_text;
 use planner::Planning;
 use view::View;
@@ -18,34 +17,6 @@ const PLAN_BYTES: usize = 56;
 
 // Room for all that is printed for any sheet: the lines of cost, start and twelve steps, with 20 digits for each number.
 pub const TEXT_BYTES: usize = 989;
-
-// Lays a label and a number into the buffer from byte `at` on, where there is room for any number, and answers where they end.
-fn labelled(out: &mut [u8], at: usize, label: &[u8], n: u64) -> usize
-    requires { ⌜ at + length (now label) + maxDigits ≤ length (now out) ⌝ }
-    ensures { λ r. ⌜ Laid at (labelled (now (label .entry)) n) (now (out .entry)) (now (out .exit)) r ⌝ }
-{
-    let behind = at + put_text(out, at, label);
-    behind + put_number(out, behind, n)
-}
-
-// The same with the end of the line behind them.
-fn line(out: &mut [u8], at: usize, label: &[u8], n: u64) -> usize
-    requires { ⌜ at + length (now label) + maxDigits + 1 ≤ length (now out) ⌝ }
-    ensures { λ r. ⌜ Laid at (lineOf (now (label .entry)) n) (now (out .entry)) (now (out .exit)) r ⌝ }
-{
-    let end = labelled(out, at, label, n);
-    end + put_text(out, end, b"\n")
-}
-
-// Lays the line of a step into the buffer from byte `at` on: door, task, and the list that is open before the step.
-fn step_line(out: &mut [u8], at: usize, door: u16, task: u16, left: u32) -> usize
-    requires { ⌜ at + maxStep ≤ length (now out) ⌝ }
-    ensures { λ r. ⌜ Laid at (stepLine door task left) (now (out .entry)) (now (out .exit)) r ⌝ }
-{
-    let behind_door = labelled(out, at, b"door ", door as u64);
-    let behind_task = labelled(out, behind_door, b" task ", task as u64);
-    line(out, behind_task, b" open ", left as u64)
-}
 
 // Lays a line for each of the doors into the buffer from byte `at` on. They complete the full list, which loses a task with each step.
 fn step_lines(s: &[u8], v: View, doors: &[u16], out: &mut [u8], at: usize) -> usize
@@ -60,7 +31,7 @@ fn step_lines(s: &[u8], v: View, doors: &[u16], out: &mut [u8], at: usize) -> us
         let d = doors[i];
         let t = view::task(s, v, d);
         let after = tasklist::without(left, t);
-        end = step_line(out, end, d, t, left);
+        end = lines::step_line(out, end, d, t, left);
         left = after;
         i = i + 1;
     }
@@ -74,16 +45,15 @@ fn plan_lines(s: &[u8], q: &[u8], out: &mut [u8]) -> usize
 {
     let v = View::of(s);
     let n = v.tasks;
-    let x = plan::in_hand(n, q);
-    let behind_cost = line(out, 0, b"cost ", x.cost);
-    let behind_start = line(out, behind_cost, b"start ", plan::start_in(q) as u64);
+    let x = hand::in_hand(n, q);
+    let behind_head = lines::head_lines(out, x.cost, layout::start_in(q));
     let doors = x.doors;
     let count = n as usize;
-    step_lines(s, v, &doors[..count], out, behind_start)
+    step_lines(s, v, &doors[..count], out, behind_head)
 }
 
 // Lays all that is printed for a sheet into the buffer, which has room for any of it: the lines of its plan or of the refusal.
-fn lines(s: &[u8], cells: &mut [u64], out: &mut [u8]) -> usize
+fn answer_lines(s: &[u8], cells: &mut [u64], out: &mut [u8]) -> usize
     requires { ⌜ maxText ≤ length (now out) ⌝ }
     ensures text { λ r. ⌜ Laid 0 (printedWith (length (now (cells .entry))) (now (s .entry))) (now (out .entry)) (now (out .exit)) r ⌝ }
     ensures cells { λ r. ⌜ now (cells .exit) ≡ print (now (s .entry)) (now (cells .entry)) (now (out .entry)) .cells ⌝ }
@@ -92,7 +62,7 @@ fn lines(s: &[u8], cells: &mut [u64], out: &mut [u8]) -> usize
     let planning = planner::plan(s, cells, &mut q);
     match planning {
         Planning::Planned(_) => plan_lines(s, &q, out),
-        Planning::Refused(refusal) => line(out, 0, b"refused ", refusal::number_of(refusal) as u64),
+        Planning::Refused(refusal) => lines::refusal_line(out, refusal::number_of(refusal)),
     }
 }
 
@@ -104,6 +74,6 @@ pub fn print(s: &[u8], cells: &mut [u64], out: &mut [u8]) -> usize
     ensures cells { λ r. ⌜ now (cells .exit) ≡ print (now (s .entry)) (now (cells .entry)) (now (out .entry)) .cells ⌝ }
 {
     let mut text = [0u8; TEXT_BYTES];
-    let end = lines(s, cells, &mut text);
+    let end = answer_lines(s, cells, &mut text);
     put_text(out, 0, &text[..end])
 }

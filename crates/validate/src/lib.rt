@@ -7,13 +7,10 @@ ghost use Rattle.model.specs.Faults.{readSheet};
 ghost use Rattle.model.specs.Validating.{routeTests, validate};
 ghost use Rattle.view.specs.Views.{viewOf};
 ghost use Rattle.validate.specs.Answers.{answerOf};
-use plan::MAX_DOORS;
-use plan::layout;
+use layout::MAX_DOORS;
 use refusal::Refusal;
 use sheet::Reading;
 use view::View;
-
-mod checks;
 
 // What validating answers: the cost, or the sheet's own refusal, or one of 30 to 34.
 pub enum Validation {
@@ -37,10 +34,10 @@ fn validate_plan(s: &[u8], v: View, q: &[u8]) -> Validation
     requires { ⌜ (status (readSheet (now s)) ≡ 0) × (v ≡ viewOf (now s)) ⌝ }
     ensures { λ r. ⌜ answerOf r ≡ validate (now (s .entry)) (now (q .entry)) ⌝ }
 {
-    if plan::ill_formed(v.tasks, q) {
+    if layout::ill_formed(v.tasks, q) {
         return Validation::Refused(Refusal::IllFormed);
     }
-    let start = plan::start_in(q);
+    let start = layout::start_in(q);
     let mut doors = [0u16; MAX_DOORS];
     layout::read_doors(v.tasks, q, &mut doors);
     let stated = layout::cost_in(v.tasks, q);
@@ -57,15 +54,16 @@ fn validate_route(s: &[u8], v: View, start: u16, doors: &[u16], stated: u64) -> 
         return Validation::Refused(Refusal::NotInSheet);
     }
     let n = doors.len();
-    let tasks = checks::tasks_of(s, v, doors);
-    if checks::done_twice(s, &tasks[..n]) {
+    let array = checks::tasks_of(s, v, doors);
+    let tasks = &array[..n];
+    if checks::done_twice(s, tasks) {
         return Validation::Refused(Refusal::DoneTwice);
     }
-    if checks::breaks_pair(s, v, &tasks[..n]) {
+    if checks::breaks_pair(s, v, tasks) {
         return Validation::Refused(Refusal::ReceiverFirst);
     }
     let from = view::start_point(s, v, start);
-    let cost = cost::route(s, v, from, doors, &tasks[..n]);
+    let cost = route::cost(s, v, from, doors, tasks);
     if stated != cost {
         return Validation::Refused(Refusal::WrongCost);
     }

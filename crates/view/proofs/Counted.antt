@@ -1,8 +1,6 @@
 -- The counts in a view are those of the sheet. Assumes nothing.
-use mathlib.Core.Path.{_≡_, ap}
-use mathlib.Core.List.{List}
-use Prim.Native.Nat.{ℕ}
-use Rattle.model.specs.SheetLayout.{decode}
+use Rattle.model.proofs.Basics.{_≡_, ap, List, ℕ}
+use Rattle.model.specs.{decode}
 use Rattle.view.specs.declared.View.{View}
 use Rattle.view.specs.Views.{viewOf, Viewed}
 

@@ -1,3 +1,3 @@
+pub mod Counted
 pub mod Fields
 pub mod Within
-pub mod Counted

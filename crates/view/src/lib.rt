@@ -58,6 +58,14 @@ pub struct View {
     pub at: Places,
 }
 
+// Where a body ends that begins at byte `at` and has that many entries of `size` bytes.
+fn behind(at: u32, entries: u16, size: u32) -> u32
+    requires { ⌜ at + entries * size < 4294967296 ⌝ }
+    ensures { λ r. ⌜ r ≡ at + entries * size ⌝ }
+{
+    at + entries as u32 * size
+}
+
 impl View {
     // The view of a sheet, of any bytes.
     pub fn of(s: &[u8]) -> Self
@@ -69,12 +77,12 @@ impl View {
         let pairs = entries(s, PAIRS_BODY);
         let rules = entries(s, RULES_BODY);
         let points = entries(s, POINTS_BODY);
-        let doors_at = HEAD_BYTES + tasks as u32 * TASK_BYTES;
-        let starts_at = doors_at + doors as u32 * DOOR_BYTES;
-        let pairs_at = starts_at + starts as u32 * START_BYTES;
-        let rules_at = pairs_at + pairs as u32 * PAIR_BYTES;
-        let points_at = rules_at + rules as u32 * RULE_BYTES;
-        let distances_at = points_at + points as u32 * POINT_BYTES;
+        let doors_at = behind(HEAD_BYTES, tasks, TASK_BYTES);
+        let starts_at = behind(doors_at, doors, DOOR_BYTES);
+        let pairs_at = behind(starts_at, starts, START_BYTES);
+        let rules_at = behind(pairs_at, pairs, PAIR_BYTES);
+        let points_at = behind(rules_at, rules, RULE_BYTES);
+        let distances_at = behind(points_at, points, POINT_BYTES);
         View {
             tasks: tasks,
             doors: doors,

@@ -1,11 +1,9 @@
 -- The plan with the doors that are left to add is the cheapest completion, and the list that is left can be completed; it has a lesser number with each door.
 -- Assumes nothing.
-use Prim.Native.Nat.{_<_}
-use native.Mathlib.Omega.{arith}
-use borrow.Author.Needs.{needs}
-use Rattle.model.specs.SheetLayout.{decode}
+use Rattle.model.proofs.Basics.{_+_, _*_, _<_, arith, length, needs}
+use Rattle.model.specs.{decode}
 use Rattle.view.specs.Views.{Viewed}
-use Rattle.plan.specs.Answers.{handOf}
+use Rattle.hand.specs.Hands.{handOf}
 use Rattle.complete.proofs.Choosing.{cell-in, cell-is}
 use Rattle.complete.proofs.Completing.{Towards, no-door, door-in, fewer-left, one-door, all-doors}
 use Rattle.complete.proofs.complete.Statement.{statement}
@@ -17,32 +15,15 @@ Inv-loop s v p k cells here x₀ left₀ at₀ x left at = Towards s v k p cells
 abbrev μ-loop : tie.MeasureT-loop
 μ-loop s v p k cells here x₀ left₀ at₀ x left at = left
 
-cast-here : tie.Need-cast-here Inv-loop μ-loop
-cast-here c = search needs
-
-mul-here : tie.Need-mul-here Inv-loop μ-loop
-mul-here c = omega (arith, cell-in (c .before .before .before .pre))
-
-add-here : tie.Need-add-here Inv-loop μ-loop
-add-here c = omega (arith, cell-in (c .before .before .before .pre))
-
-mul-here-2 : tie.Need-mul-here-2 Inv-loop μ-loop
-mul-here-2 c = omega (arith, cell-in (c .before .before .before .pre))
-
-shared-slice-read-here : tie.Need-shared-slice-read-here Inv-loop μ-loop
-shared-slice-read-here c = cell-in (c .before .before .before .before .pre)
-
-new-requires : tie.Need-new-requires Inv-loop μ-loop
-new-requires c κs = search needs
+-- the cell is there
+there : (c : tie.Start Inv-loop μ-loop) → let a = c .args in a .k * a .v .points + a .p < length (a .cells .now)
+there c = cell-in (c .pre)
 
 loop-holds : tie.Need-loop-holds Inv-loop μ-loop
 loop-holds c = let p = c .before .before .before .before .before .pre in no-door p (c .new .ensures) (cell-is p)
 
 next-door-requires : tie.Need-next-door-requires Inv-loop μ-loop
 next-door-requires c κs = (c .before .loop .inv .open-still, c .loop-test .taken)
-
-with-door-requires : tie.Need-with-door-requires Inv-loop μ-loop
-with-door-requires c κs = search needs
 
 -- what reading the door that was found asks
 asks : (c : tie.After-next-door Inv-loop μ-loop) →
@@ -55,17 +36,16 @@ asks c =
 task-requires : tie.Need-task-requires Inv-loop μ-loop
 task-requires c κs = asks (c .before)
 
-without-requires : tie.Need-without-requires Inv-loop μ-loop
-without-requires c κs = search needs
-
 depart-requires : tie.Need-depart-requires Inv-loop μ-loop
 depart-requires c κs = asks (c .before .before .before)
 
 loop-less : tie.Need-loop-less Inv-loop μ-loop
 loop-less c =
     let n = c .before .before .before .before in
-    rw (c .before .without .ensures) (fewer-left (n .before .before .loop .inv) (n .before .loop-test .taken) (n .next-door .ensures) (c .before .before .task .ensures))
+    rw (c .before .without .ensures)
+    (fewer-left (n .before .before .loop .inv) (n .before .loop-test .taken) (n .next-door .ensures) (c .before .before .task .ensures))
 
+-- one door more is added, and its task struck off
 loop-again : tie.Need-loop-again Inv-loop μ-loop
 loop-again c =
     let n = c .before .before .before .before in
@@ -76,23 +56,7 @@ returns : tie.Need-returns Inv-loop μ-loop
 returns c = all-doors (c .before .loop .inv) (c .loop-test .left)
 
 pub complete-spec : {M : Type 1} → statement M
-complete-spec =
-    tie.close
-    (tie.spec
-    Inv-loop
-    μ-loop
-    cast-here
-    mul-here
-    add-here
-    mul-here-2
-    shared-slice-read-here
-    new-requires
-    loop-holds
-    next-door-requires
-    with-door-requires
-    task-requires
-    without-requires
-    depart-requires
-    loop-less
-    loop-again
-    returns)
+complete-spec = tie.close (tie.spec Inv-loop μ-loop (λ c. search needs) (λ c. omega (arith, there (c .before .before .before)))
+    (λ c. omega (arith, there (c .before .before .before))) (λ c. omega (arith, there (c .before .before .before)))
+    (λ c. there (c .before .before .before .before)) (λ c κs. search needs) loop-holds next-door-requires (λ c κs. search needs)
+    task-requires (λ c κs. search needs) depart-requires loop-less loop-again returns)

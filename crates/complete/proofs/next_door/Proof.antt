@@ -1,144 +1,84 @@
--- What is gathered are the doors whose task can come first, and the first of them through which the cost is that of the cell is the next door. Assumes nothing.
-use mathlib.Core.Path.{_≡_, refl, sym}
-use mathlib.Core.Bool.{true}
-use Prim.Native.Nat.{_+_, _*_, _^_, _≤_, _<_}
-use native.Mathlib.Nat.{mul-le-mul-right}
-use native.Mathlib.Omega.{arith}
-use lib.ListN.{length}
-use lib.Pow.{areBytes}
-use lib.Seq.{length-take-le}
-use Rattle.model.specs.SheetLayout.{maxDoors, decode}
-use Rattle.model.proofs.Elements.{are-bytes}
-use Rattle.complete.proofs.Choosing.{Holding, hold, cell-in, load-asks, gather-asks, find-asks, found-in, found-is}
-use borrow.Author.Needs.{needs}
+-- The list is open, so what is gathered are the doors whose task can come first, and the first of them through which the cost is that of the cell is the
+-- next door. Assumes nothing.
+use Rattle.model.proofs.Basics.{_≡_, refl, sym, _+_, _*_, _^_, _<_, arith, length, length-take-le, needs}
+use Rattle.model.specs.{maxDoors, decode}
+use Rattle.model.proofs.Tools.Elements.{are-bytes}
+use Rattle.table.proofs.Bellman.{OpenList}
+use Rattle.table.proofs.ListRows.{Holding, load-asks, gather-asks, hold, given}
+use Rattle.complete.proofs.Choosing.{cell-in, opened, found-in, found-is}
 use Rattle.complete.proofs.next_door.Statement.{statement}
 use Rattle.complete.proofs.next_door.Tie as tie
 
--- ---- the function's entry, from where the doors are about to be gathered
+-- ---- places of the code, and what is known there
 
-abbrev entry : tie.After-parts → tie.Start
-entry c = c .before .before .before .before .before .before .before .before
+abbrev begun : tie.After-parts → tie.After-shared-slice-known2
+begun c = c .before .before .before .before .before .before
 
--- the sheet is bytes
-bytes : (c : tie.After-parts) → areBytes (entry c .args .s .now) ≡ true
-bytes c = are-bytes (entry c .args .s .now) (c .before .before .before .before .before .before .before .shared-slice-known .given)
+abbrev entered : tie.After-gather → tie.Start
+entered c = begun (c .before) .before .before
 
--- ---- and from where they are gathered
+-- the cell is there, and its number is small
+there : (c : tie.After-shared-slice-known2) → let a = c .before .before .args in a .k * a .v .points + a .p < length (a .cells .now)
+there c = cell-in (c .before .before .pre .0)
 
-abbrev start : tie.After-gather → tie.Start
-start c = entry (c .before)
+small : (c : tie.After-shared-slice-known2) → let a = c .before .before .args in (a .k * a .v .points + a .p) * 8 < 2 ^ 64
+small c = omega (arith, there c)
 
--- what the code has when the doors are gathered
-held : (c : tie.After-gather) →
-    let a = start c .args in
+-- the list is open
+is-open : (c : tie.After-shared-slice-known2) → let a = c .before .before .args in OpenList (a .s .now) (a .v) (a .k) (a .cells .now)
+is-open c = let s = c .before .before in opened (s .pre .0) (s .pre .1) (are-bytes (s .args .s .now) (c .before .shared-slice-known .given))
+
+-- what the code has once the doors are gathered
+holds : (c : tie.After-gather) →
+    let a = entered c .args in
+    let l = c .gather .last .1 .1 .1 .1 .1 .1 in
     Holding (decode (a .s .now)) (a .k) (a .cells .now) (c .before .before .before .before .before .before .load .result) (c .gather .result)
-    (c .gather .last .1 .1 .1 .1 .1 .1 .0) (c .gather .last .1 .1 .1 .1 .1 .1 .1 .0) (c .gather .last .1 .1 .1 .1 .1 .1 .1 .1 .0)
-held c =
-    let e = c .gather .ensures in
+    (l .0) (l .1 .0) (l .1 .1 .0)
+holds c =
     let r = c .before .before .before .before .before in
-    hold (start c .pre .0) (c .gather .result) _ _ _ (r .before .load .ensures) (r .rest-rows .ensures) (e .0) (e .1 .0) (e .1 .1 .0) (e .1 .1 .1)
+    hold (is-open (begun (c .before))) (r .rest-rows .ensures) _ _ _ (r .before .load .ensures) (c .gather .ensures)
 
 -- ---- the needs
 
 load-requires : tie.Need-load-requires
-load-requires c κs = let p = c .before .before .pre in (p .0 .sheet .view, load-asks (p .0) (p .1))
-
-rest-rows-requires : tie.Need-rest-rows-requires
-rest-rows-requires c κs = search needs
-
-slice-aggregate-gather : tie.Need-slice-aggregate-gather
-slice-aggregate-gather c = search needs
-
-slice-aggregate-gather-2 : tie.Need-slice-aggregate-gather-2
-slice-aggregate-gather-2 c = search needs
-
-slice-aggregate-gather-3 : tie.Need-slice-aggregate-gather-3
-slice-aggregate-gather-3 c = search needs
-
-slice-aggregate-gather-4 : tie.Need-slice-aggregate-gather-4
-slice-aggregate-gather-4 c = search needs
+load-requires c κs = (c .before .before .pre .0 .sheet .view, load-asks (is-open c))
 
 gather-requires : tie.Need-gather-requires
-gather-requires c κs = gather-asks (entry c .pre .0) (entry c .pre .1) (bytes c) (c .before .before .before .before .rest-rows .ensures)
-
-cast-here : tie.Need-cast-here
-cast-here c = search needs
-
--- the cell's number is far below 2 ^ 64
-place : (c : tie.After-struct-known) → let a = start (c .before .before .before .before) .args in a .k * a .v .points + a .p < 2 ^ 49
-place c =
-    let a = start (c .before .before .before .before) .args in
-    let m : a .k * a .v .points ≤ 4294967295 * a .v .points = mul-le-mul-right (a .v .points) (omega arith) in
-    omega arith
-
-mul-here : tie.Need-mul-here
-mul-here c = omega (arith, place c)
-
-add-here : tie.Need-add-here
-add-here c = omega (arith, place c)
-
-mul-here-2 : tie.Need-mul-here-2
-mul-here-2 c = omega (arith, place c)
-
-shared-slice-read-here : tie.Need-shared-slice-read-here
-shared-slice-read-here c = cell-in (start (c .before .before .before .before .before) .pre .0)
+gather-requires c κs = gather-asks (is-open (begun c)) (c .before .before .before .before .rest-rows .ensures)
 
 array-share-prefix-arrivals : tie.Need-array-share-prefix-arrivals
-array-share-prefix-arrivals c = held (c .before .before .before .before .before) .arrival .fits
+array-share-prefix-arrivals c = holds (c .before .before .before .before .before) .arrival .fits
 
 slice-aggregate-first-at-cost : tie.Need-slice-aggregate-first-at-cost
-slice-aggregate-first-at-cost c = sym (length-take-le _ _ (held (c .before .before .before .before .before .before) .arrival .fits))
+slice-aggregate-first-at-cost c = sym (length-take-le _ _ (holds (c .before .before .before .before .before .before) .arrival .fits))
 
 array-share-prefix-parts : tie.Need-array-share-prefix-parts
-array-share-prefix-parts c = held (c .before .before .before .before .before .before) .part .fits
+array-share-prefix-parts c = holds (c .before .before .before .before .before .before) .part .fits
 
 slice-aggregate-first-at-cost-2 : tie.Need-slice-aggregate-first-at-cost-2
-slice-aggregate-first-at-cost-2 c = sym (length-take-le _ _ (held (c .before .before .before .before .before .before .before) .part .fits))
+slice-aggregate-first-at-cost-2 c = sym (length-take-le _ _ (holds (c .before .before .before .before .before .before .before) .part .fits))
 
 first-at-cost-requires : tie.Need-first-at-cost-requires
 first-at-cost-requires c κs =
     let g = c .before .before .before .before .before .before .before in
-    find-asks (start g .pre .0) (start g .pre .1) (bytes (g .before)) (held g)
+    (given (is-open (begun (g .before))) (holds g), entered g .pre .0 .point)
 
 -- the place found is one of the array
 place-in : (c : tie.After-first-at-cost) → c .first-at-cost .result < maxDoors
 place-in c =
     let g = c .before .before .before .before .before .before .before .before in
     let size : length (g .gather .last .1 .1 .1 .1 .1 .1 .0) ≡ maxDoors = search needs in
-    omega (arith, found-in (start g .pre .0) (start g .pre .1) (bytes (g .before)) (held g) refl (c .first-at-cost .ensures))
-
-mul-result : tie.Need-mul-result
-mul-result c = omega (arith, place-in c)
-
-array-read-result : tie.Need-array-read-result
-array-read-result c = place-in c
+    omega (arith, found-in (entered g .pre .0) (is-open (begun (g .before))) (holds g) refl (c .first-at-cost .ensures))
 
 returns : tie.Need-returns
 returns c =
     let g = c .before .before .before .before .before .before .before .before in
-    found-is (start g .pre .0) (start g .pre .1) (bytes (g .before)) (held g) refl (c .first-at-cost .ensures)
+    found-is (entered g .pre .0) (is-open (begun (g .before))) (holds g) refl (c .first-at-cost .ensures)
 
 pub next-door-spec : {M : Type 1} → statement M
-next-door-spec =
-    tie.close
-    (tie.spec
-    load-requires
-    rest-rows-requires
-    slice-aggregate-gather
-    slice-aggregate-gather-2
-    slice-aggregate-gather-3
-    slice-aggregate-gather-4
-    gather-requires
-    cast-here
-    mul-here
-    add-here
-    mul-here-2
-    shared-slice-read-here
-    array-share-prefix-arrivals
-    slice-aggregate-first-at-cost
-    array-share-prefix-parts
-    slice-aggregate-first-at-cost-2
-    first-at-cost-requires
-    mul-result
-    array-read-result
-    returns)
+next-door-spec = tie.close (tie.spec load-requires (λ c κs. search needs) (λ c. search needs) (λ c. search needs) (λ c. search needs)
+    (λ c. search needs) gather-requires (λ c. search needs) (λ c. omega (arith, small (begun (c .before .before .before .before .before))))
+    (λ c. omega (arith, small (begun (c .before .before .before .before .before))))
+    (λ c. omega (arith, small (begun (c .before .before .before .before .before))))
+    (λ c. there (begun (c .before .before .before .before .before .before))) array-share-prefix-arrivals slice-aggregate-first-at-cost
+    array-share-prefix-parts slice-aggregate-first-at-cost-2 first-at-cost-requires (λ c. omega (arith, place-in c)) place-in returns)

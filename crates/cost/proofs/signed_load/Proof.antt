@@ -1,13 +1,9 @@
--- The loop's sum is the end load and the changes of the open tasks below t, in 64 bits that it cannot leave. Assumes nothing.
-use mathlib.Core.Path.{sym, ap}
-use mathlib.Core.Logic.{⊎-elim}
-use Prim.Native.Nat.{_-_, _≤_}
-use native.Mathlib.Omega.{arith}
-use lib.IntN.{pos}
+-- The loop's sum is the end load and the changes of the open tasks below t. Each of them has 16 bits and their number too, so no sum
+-- leaves 64 bits. Assumes nothing.
+use Rattle.model.proofs.Basics.{sym, ap, ⊎-elim, _-_, _≤_, arith, pos, needs}
+use Rattle.model.specs.{decode}
+use Rattle.model.proofs.Tools.SignedSums.{no-sum, widened-fits, next-fits, next-sum, same-sum}
 use mir.Syntax.{w16, w64}
-use borrow.Author.Needs.{needs}
-use Rattle.model.specs.SheetLayout.{decode}
-use Rattle.model.proofs.SignedSums.{no-sum, widened-fits, next-fits, next-sum, same-sum}
 use Rattle.view.proofs.Counted.{tasks-are}
 use Rattle.cost.proofs.Loads.{LoadBelow, task-open, task-done, all-tasks}
 use Rattle.cost.proofs.signed_load.Statement.{statement}
@@ -19,36 +15,22 @@ Inv-loop s v k tasks sum₀ t₀ sum t = (t ≤ tasks) × LoadBelow (decode s) k
 abbrev μ-loop : tie.MeasureT-loop
 μ-loop s v k tasks sum₀ t₀ sum t = tasks - t
 
-end-load-requires : tie.Need-end-load-requires Inv-loop μ-loop
-end-load-requires c κs = search needs
-
-cast-sum : tie.Need-cast-sum Inv-loop μ-loop
-cast-sum c = search needs
-
 loop-holds : tie.Need-loop-holds Inv-loop μ-loop
 loop-holds c = (omega arith, no-sum _ (ap pos (sym (c .end-load .ensures))) (omega arith) (omega arith))
 
 change-requires : tie.Need-change-requires Inv-loop μ-loop
 change-requires c κs = let p = c .before .before .before .before .pre in let n = tasks-are p in (p, omega arith)
 
-contains-requires : tie.Need-contains-requires Inv-loop μ-loop
-contains-requires c κs = search needs
-
 cast-sum-2 : tie.Need-cast-sum-2 Inv-loop μ-loop
 cast-sum-2 c = let r = c .before .before .change in widened-fits w16 (r .result) (r .ok) w64 (omega (arith, r .ok))
 
 add-sum : tie.Need-add-sum Inv-loop μ-loop
 add-sum c =
-    let h = c .before .before .before .before .loop .inv .1 in
     let r = c .before .before .change in
-    next-fits h (r .result) (r .ok) (task-open _ _ _ (r .ensures) (c .before .contains .ensures) (c .if1 .taken)) (omega arith)
+    next-fits (c .before .before .before .before .loop .inv .1) (r .result) (r .ok)
+    (task-open _ _ _ (r .ensures) (c .before .contains .ensures) (c .if1 .taken)) (omega arith)
 
-add-t : tie.Need-add-t Inv-loop μ-loop
-add-t c = search needs
-
-loop-less : tie.Need-loop-less Inv-loop μ-loop
-loop-less c = search needs
-
+-- the task is open, and its change is summed, or it is done
 loop-again : tie.Need-loop-again Inv-loop μ-loop
 loop-again c =
     let h = c .before .before .before .before .loop .inv .1 in
@@ -65,19 +47,5 @@ returns : tie.Need-returns Inv-loop μ-loop
 returns c = let n = tasks-are (c .before .before .before .before .pre) in all-tasks (c .before .loop .inv .1) (omega arith)
 
 pub signed-load-spec : {M : Type 1} → statement M
-signed-load-spec =
-    tie.close
-    (tie.spec
-    Inv-loop
-    μ-loop
-    end-load-requires
-    cast-sum
-    loop-holds
-    change-requires
-    contains-requires
-    cast-sum-2
-    add-sum
-    add-t
-    loop-less
-    loop-again
-    returns)
+signed-load-spec = tie.close (tie.spec Inv-loop μ-loop (λ c κs. search needs) (λ c. search needs) loop-holds change-requires
+    (λ c κs. search needs) cast-sum-2 add-sum (λ c. search needs) (λ c. search needs) loop-again returns)

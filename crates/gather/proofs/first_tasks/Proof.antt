@@ -1,84 +1,43 @@
--- What is left of the list are its tasks but for the receivers of the pairs so far that lie within it. Assumes nothing.
-use mathlib.Core.Path.{_≡_, refl, _∙_}
-use mathlib.Core.Logic.{⊎-elim}
-use Prim.Native.Nat.{_-_, _≤_}
-use native.Mathlib.Omega.{arith}
-use borrow.Author.Needs.{needs}
-use Rattle.model.specs.SheetLayout.{decode}
+-- What is left of the list are its tasks but for the receivers of the pairs so far that lie within it; a turn strikes off one more, or none. Assumes nothing.
+use Rattle.model.proofs.Basics.{_≡_, refl, _∙_, ⊎-elim, _-_, _≤_, arith, needs}
+use Rattle.model.specs.{decode}
 use Rattle.view.proofs.Counted.{pairs-are}
 use Rattle.gather.specs.Gathering.{firstBelow}
-use Rattle.gather.proofs.Firsts.{within, outside, all-pairs}
+use Rattle.gather.proofs.Firsts.{pair, within, outside, all-pairs}
 use Rattle.gather.proofs.first_tasks.Statement.{statement}
 use Rattle.gather.proofs.first_tasks.Tie as tie
 
 abbrev Inv-loop : tie.InvT-loop
-Inv-loop s v k pairs first₀ i₀ first i = (i ≤ pairs) × (first ≡ firstBelow (decode s) k i)
+Inv-loop s v k pairs first₀ i₀ first i = (i ≤ pairs) × (pairs ≡ decode s .pairs) × (first ≡ firstBelow (decode s) k i)
 
 abbrev μ-loop : tie.MeasureT-loop
 μ-loop s v k pairs first₀ i₀ first i = pairs - i
 
 loop-holds : tie.Need-loop-holds Inv-loop μ-loop
-loop-holds c = (omega arith, refl)
+loop-holds c = (omega arith, pairs-are (c .before .pre), refl)
 
-sender-requires : tie.Need-sender-requires Inv-loop μ-loop
-sender-requires c κs = let p = c .before .before .before .pre in (p, rw (← pairs-are p) (omega arith))
-
-receiver-requires : tie.Need-receiver-requires Inv-loop μ-loop
-receiver-requires c κs = let p = c .before .before .before .before .pre in (p, rw (← pairs-are p) (omega arith))
-
-contains-requires : tie.Need-contains-requires Inv-loop μ-loop
-contains-requires c κs = search needs
-
-contains-requires-2 : tie.Need-contains-requires-2 Inv-loop μ-loop
-contains-requires-2 c κs = search needs
-
-without-requires : tie.Need-without-requires Inv-loop μ-loop
-without-requires c κs = search needs
-
-add-i : tie.Need-add-i Inv-loop μ-loop
-add-i c = search needs
-
-loop-less : tie.Need-loop-less Inv-loop μ-loop
-loop-less c = search needs
-
+-- one pair more: its receiver is struck off if its sender is in the list
 loop-again : tie.Need-loop-again Inv-loop μ-loop
 loop-again c =
     let r = c .before .before .before in
     let l = r .before .before .before in
     let S = decode (l .before .before .args .s .now) in
-    let k = l .before .before .args .k in
-    let i = l .loop .i in
-    let h = l .loop .inv .1 in
-    let f = r .before .sender .ensures in
-    let g = r .receiver .ensures in
-    let p = c .before .before .contains .ensures in
-    let q = c .before .contains2 .ensures in (
+    let K = l .before .before .args .k in
+    let v = l .loop .inv in
+    let within-list = pair S K (l .loop .i) (r .before .sender .ensures) (r .receiver .ensures)
+    (c .before .before .contains .ensures) (c .before .contains2 .ensures) in (
       omega arith,
+      v .1,
       ⊎-elim
-          (λ w. w .2 ∙ within S k i h f g p q (w .0 .taken) (w .1 .ensures))
-          (λ w. w .1 ∙ outside S k i h f g p q (w .0 .left))
+          (λ w. w .2 ∙ within S K (l .loop .i) (v .2) (r .receiver .ensures) (within-list ∙ w .0 .taken) (w .1 .ensures))
+          (λ w. w .1 ∙ outside S K (l .loop .i) (v .2) (within-list ∙ w .0 .left))
           (c .if1 .came),
     )
 
 returns : tie.Need-returns Inv-loop μ-loop
-returns c =
-    let l = c .before .loop in
-    let n = pairs-are (c .before .before .before .pre) in
-    all-pairs _ _ (l .i) (l .inv .1) (omega arith)
+returns c = let l = c .before .loop in all-pairs _ _ (l .i) (l .inv .2) (omega arith)
 
 pub first-tasks-spec : {M : Type 1} → statement M
-first-tasks-spec =
-    tie.close
-    (tie.spec
-    Inv-loop
-    μ-loop
-    loop-holds
-    sender-requires
-    receiver-requires
-    contains-requires
-    contains-requires-2
-    without-requires
-    add-i
-    loop-less
-    loop-again
-    returns)
+first-tasks-spec = tie.close (tie.spec Inv-loop μ-loop loop-holds (λ c κs. (c .before .before .before .pre, omega arith))
+    (λ c κs. (c .before .before .before .before .pre, omega arith)) (λ c κs. search needs) (λ c κs. search needs) (λ c κs. search needs)
+    (λ c. search needs) (λ c. search needs) loop-again returns)

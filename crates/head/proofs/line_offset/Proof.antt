@@ -1,26 +1,12 @@
--- The second number of contents line i. Assumes nothing.
-use mathlib.Core.Path.{ap, _∙_}
-use Prim.Native.Nat.{ℕ, _+_}
-use native.Mathlib.Omega.{arith}
-use Rattle.model.specs.Bytes.{numberAt}
-use Rattle.model.specs.SheetLayout.{lineAt, lineOffset}
-use borrow.Author.Needs.{needs}
+-- The second number of contents line i, as the definition places it. Assumes nothing.
+use Rattle.model.proofs.Basics.{needs}
+use Rattle.model.specs.{lineAt, lineOffset}
 use Rattle.head.proofs.line_offset.Statement.{statement}
 use Rattle.head.proofs.line_offset.Tie as tie
 
-line-at-requires : tie.Need-line-at-requires
-line-at-requires c κs = search needs
-
-add-read-u16 : tie.Need-add-read-u16
-unfolding lineAt
-add-read-u16 c = omega arith
-
-read-u16-requires : tie.Need-read-u16-requires
-read-u16-requires c κs = search needs
-
 returns : tie.Need-returns
-unfolding lineOffset
-returns c = let b = c .before .before .before .args .s .now in c .read-u16 .ensures ∙ ap (λ (at : ℕ). numberAt 2 b (at + 2)) (c .before .line-at .ensures)
+unfolding lineOffset lineAt
+returns c = c .in-line .ensures
 
 pub line-offset-spec : {M : Type 1} → statement M
-line-offset-spec = tie.close (tie.spec line-at-requires add-read-u16 read-u16-requires returns)
+line-offset-spec = tie.close (tie.spec (λ c κs. search needs) returns)

@@ -1,65 +1,17 @@
--- Two bytes, one or none are left from byte i on. Assumes nothing.
-use mathlib.Core.Path.{sym}
-use Prim.Native.Nat.{_+_}
-use native.Mathlib.Omega.{arith}
-use Rattle.number.proofs.Bytes.{number-beyond, number-last, number-two}
-use borrow.Author.Needs.{needs}
+-- Two halves of a byte each, by one law. From the end on nothing is read, so the place of the second half cannot wrap. Assumes nothing.
+use Rattle.model.proofs.Basics.{needs}
+use Rattle.number.proofs.Bytes.{number-beyond, both-halves}
 use Rattle.number.proofs.read_u16.Statement.{statement}
 use Rattle.number.proofs.read_u16.Tie as tie
 
+-- behind the end
 returns : tie.Need-returns
-returns c = sym (number-beyond 2 _ _ (c .if1 .taken))
+returns c = number-beyond 2 _ _ (c .if1 .taken)
 
-sub-if2 : tie.Need-sub-if2
-sub-if2 c = search needs
-
-shared-slice-read-result : tie.Need-shared-slice-read-result
-shared-slice-read-result c = search needs
-
-cast-result : tie.Need-cast-result
-cast-result c = omega (arith, c .shared-slice-known .given (c .before .before .before .args .i))
-
+-- two halves
 returns-2 : tie.Need-returns-2
-returns-2 c = sym (number-last _ _ (omega arith))
-
-shared-slice-read-result-2 : tie.Need-shared-slice-read-result-2
-shared-slice-read-result-2 c = search needs
-
-cast-result-2 : tie.Need-cast-result-2
-cast-result-2 c = omega (arith, c .shared-slice-known2 .given (c .before .before .before .args .i))
-
-add-result : tie.Need-add-result
-add-result c = search needs
-
-shared-slice-read-result-3 : tie.Need-shared-slice-read-result-3
-shared-slice-read-result-3 c = search needs
-
-cast-result-3 : tie.Need-cast-result-3
-cast-result-3 c = omega (arith, c .shared-slice-known3 .given (c .before .before .before .before .args .i + 1))
-
-mul-result : tie.Need-mul-result
-mul-result c = omega (arith, c .shared-slice-known3 .given (c .before .before .before .before .args .i + 1))
-
-add-result-2 : tie.Need-add-result-2
-add-result-2 c = omega (arith, c .shared-slice-known3 .given (c .before .before .before .before .args .i), c .shared-slice-known3 .given (c .before .before .before .before .args .i + 1))
-
-returns-3 : tie.Need-returns-3
-returns-3 c = sym (number-two _ _)
+returns-2 c = both-halves 1 _ _ (c .before .byte .ensures) (c .byte2 .ensures)
 
 pub read-u16-spec : {M : Type 1} → statement M
-read-u16-spec =
-    tie.close
-    (tie.spec
-    returns
-    sub-if2
-    shared-slice-read-result
-    cast-result
-    returns-2
-    shared-slice-read-result-2
-    cast-result-2
-    add-result
-    shared-slice-read-result-3
-    cast-result-3
-    mul-result
-    add-result-2
-    returns-3)
+read-u16-spec = tie.close (tie.spec returns (λ c κs. search needs) (λ c. search needs) (λ c. search needs) (λ c κs. search needs)
+    (λ c. search needs) (λ c. search needs) (λ c. search needs) returns-2)

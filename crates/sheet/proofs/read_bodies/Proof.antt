@@ -1,18 +1,11 @@
--- Each test that did not apply is one of the definition's chain, and the first that applies is its answer. Twelve tasks at most, which 14 and 17 ask for, is what 12 has tested;
--- 17 is decided by striking off because 14 has tested the pairs. Assumes nothing.
-use mathlib.Core.Path.{_≡_, refl, sym, ap₂, _∙_}
-use mathlib.Core.Bool.{Bool, false}
-use mathlib.Core.List.{List}
-use Prim.Native.Nat.{ℕ, _≤_}
-use native.Mathlib.Omega.{arith}
-use Rattle.model.specs.Method.{maxListed, somethingLeft}
-use Rattle.model.specs.Orders.{noOrder}
-use Rattle.model.specs.SheetLayout.{layoutOf, decode}
-use Rattle.model.specs.Faults.{outOfRange, someLacksDoor, tooLight, sheetTests, readSheet}
-use Rattle.model.specs.Passing.{InRange}
-use Rattle.model.proofs.Entries.{tasks-listed}
-use Rattle.model.proofs.Ranges.{in-range}
-use Rattle.model.proofs.NoOrder.{something-left}
+-- Each test that did not apply is one of the definition's chain, and the first that applies is its answer. Twelve tasks at most, which 14
+-- and 17 ask for, is what 12 has tested; 17 is decided by striking off because 14 has tested the pairs. Assumes nothing.
+use Rattle.model.proofs.Basics.{_≡_, refl, sym, ap₂, _∙_, false, List, ℕ, _≤_, arith}
+use Rattle.model.specs.{maxListed, noOrder, layoutOf, decode, outOfRange, someLacksDoor, tooLight, sheetTests, readSheet}
+use Rattle.model.specs.{InRange}
+use Rattle.model.proofs.Theory.NoOrder.{something-left}
+use Rattle.model.proofs.Bytes.Entries.{tasks-listed}
+use Rattle.model.proofs.Bytes.Ranges.{in-range}
 use Rattle.view.specs.Views.{Viewed}
 use Rattle.view.proofs.Counted.{tasks-are, points-are}
 use Rattle.sheet.proofs.Laid.{counts, viewed}
@@ -51,8 +44,10 @@ light : (c : tie.Else3) → tooLight (decode (bytes2 (c .before))) ≡ false
 light c = sym (c .before .before .too-light .ensures) ∙ c .if3 .left
 
 -- 17 is what striking off leaves
-order-left : (c : tie.Else2) (t : Bool) → t ≡ somethingLeft (decode (bytes2 c)) → noOrder (decode (bytes2 c)) ≡ t
-order-left c t h = something-left (decode (bytes2 c)) (inside (left2 c)) (few (left2 c .before .before)) ∙ sym h
+order : (c : tie.After-something-left) → noOrder (decode (bytes2 (c .before .before))) ≡ c .something-left .result
+order c =
+    let e = left2 (c .before .before) in
+    something-left (decode (bytes (e .before .before))) (inside e) (few (e .before .before)) ∙ sym (c .something-left .ensures)
 
 -- ---- what the tests that remain answer
 
@@ -76,6 +71,7 @@ remaining7 c = remaining6 (c .before) ∙ rw (light c)
 out-of-range-requires : tie.Need-out-of-range-requires
 out-of-range-requires c κs = (view c, few c)
 
+-- 14 applies
 returns : tie.Need-returns
 unfolding sheetTests
 returns c = (sym (remaining4 (c .before .before) ∙ rw (sym (c .before .out-of-range .ensures) ∙ c .if1 .taken)), refl)
@@ -86,10 +82,12 @@ some-lacks-door-requires c κs = (view (c .before .before), omega (arith, few (c
 too-light-requires : tie.Need-too-light-requires
 too-light-requires c κs = let k = c .before .before .before in (view k, omega (arith, few k))
 
+-- 15 applies
 returns-2 : tie.Need-returns-2
 unfolding sheetTests
 returns-2 c = (sym (remaining5 (c .before .before .before) ∙ rw (sym (c .before .before .some-lacks-door .ensures) ∙ c .if2 .taken)), refl)
 
+-- 16 applies
 returns-3 : tie.Need-returns-3
 unfolding sheetTests
 returns-3 c = (sym (remaining6 (c .before) ∙ rw (sym (c .before .before .too-light .ensures) ∙ c .if3 .taken)), refl)
@@ -97,29 +95,20 @@ returns-3 c = (sym (remaining6 (c .before) ∙ rw (sym (c .before .before .too-l
 something-left-requires : tie.Need-something-left-requires
 something-left-requires c κs = let e = left2 (c .before) in (view (e .before .before), few (e .before .before), inside e)
 
+-- 17 applies
 returns-4 : tie.Need-returns-4
 unfolding sheetTests
-returns-4 c = (sym (remaining7 (c .before .before) ∙ rw (order-left (c .before .before .before) _ (c .before .something-left .ensures) ∙ c .if4 .taken)), refl)
+returns-4 c = (sym (remaining7 (c .before .before) ∙ rw (order (c .before) ∙ c .if4 .taken)), refl)
 
+-- none applies, and the view is handed on
 returns-5 : tie.Need-returns-5
 unfolding sheetTests
 returns-5 c =
     let b = left2 (c .before .before .before) .before .before in (
-      ap₂ answer (tasks-are (view b)) (points-are (view b))
-          ∙ sym (remaining7 (c .before .before) ∙ rw (order-left (c .before .before .before) _ (c .before .something-left .ensures) ∙ c .if4 .left)),
+      ap₂ answer (tasks-are (view b)) (points-are (view b)) ∙ sym (remaining7 (c .before .before) ∙ rw (order (c .before) ∙ c .if4 .left)),
       b .before .pre .1,
     )
 
 pub read-bodies-spec : {M : Type 1} → statement M
-read-bodies-spec =
-    tie.close
-    (tie.spec
-    out-of-range-requires
-    returns
-    some-lacks-door-requires
-    too-light-requires
-    returns-2
-    returns-3
-    something-left-requires
-    returns-4
-    returns-5)
+read-bodies-spec = tie.close (tie.spec out-of-range-requires returns some-lacks-door-requires too-light-requires returns-2 returns-3
+    something-left-requires returns-4 returns-5)

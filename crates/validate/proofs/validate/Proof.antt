@@ -1,19 +1,12 @@
--- A sheet that reads goes to the judge with its view, and a fault of the sheet is the answer. Assumes nothing.
-use mathlib.Core.Path.{sym, ap, _∙_}
-use Rattle.model.specs.Answer.{status}
+-- A sheet that reads goes to the judge with its view, as reading tells it; a fault of the sheet is the answer. Assumes nothing.
+use Rattle.model.proofs.Basics.{sym, ap, _∙_, needs}
+use Rattle.model.specs.{status}
 use Rattle.view.specs.Views.{viewOf}
 use Rattle.sheet.specs.Answers.{answerOf, viewIn}
 use Rattle.sheet.specs.declared.Reading.{Reading}
 use Rattle.validate.proofs.Judging.{sheet-refused}
-use borrow.Author.Needs.{needs}
 use Rattle.validate.proofs.validate.Statement.{statement}
 use Rattle.validate.proofs.validate.Tie as tie
-
-read-requires : tie.Need-read-requires
-read-requires c κs = search needs
-
-enum-known-reading : tie.Need-enum-known-reading
-enum-known-reading c = search needs
 
 validate-plan-requires : tie.Need-validate-plan-requires
 validate-plan-requires c κs =
@@ -23,22 +16,9 @@ validate-plan-requires c κs =
     let r = m .before .before .read .ensures in
     (ap status (sym (r .0)) ∙ ap (λ (x : Reading). status (answerOf x)) e, ap (λ (x : Reading). viewIn x (viewOf b)) (sym e) ∙ r .1)
 
-enum-known-reading-2 : tie.Need-enum-known-reading-2
-enum-known-reading-2 c = search needs
-
-returns : tie.Need-returns
-returns c = search needs
-
 returns-2 : tie.Need-returns-2
 returns-2 c = sheet-refused _ _ (ap answerOf (sym (c .before .reading2 .given .1)) ∙ c .before .before .before .read .ensures .0)
 
 pub validate-spec : {M : Type 1} → statement M
-validate-spec =
-    tie.close
-    (tie.spec
-    read-requires
-    enum-known-reading
-    validate-plan-requires
-    enum-known-reading-2
-    returns
-    returns-2)
+validate-spec = tie.close (tie.spec (λ c κs. search needs) (λ c. search needs) validate-plan-requires (λ c. search needs)
+    (λ c. search needs) returns-2)

@@ -1,13 +1,12 @@
--- A plan that is not as laid out is refused; of one that is, the route that its bytes hold is judged. Assumes nothing.
-use mathlib.Core.Path.{_≡_, sym, _∙_}
-use lib.Seq.{length-take-le}
-use Rattle.model.specs.SheetLayout.{decode}
-use Rattle.model.proofs.Reading.{Reads}
-use Rattle.model.proofs.Calls.{reads-sheet}
+-- A plan that is not as laid out is refused; of one that is, the route that its bytes hold is judged, with its doors in the front of the
+-- array. Assumes nothing.
+use Rattle.model.proofs.Basics.{_≡_, sym, _∙_, length-take-le, needs}
+use Rattle.model.specs.{decode}
+use Rattle.model.proofs.Calls.Reading.{Reads}
+use Rattle.model.proofs.Calls.Interface.{reads-sheet}
 use Rattle.view.proofs.Counted.{tasks-are}
 use Rattle.sheet.proofs.Laid.{viewed, reads-laid}
 use Rattle.validate.proofs.Judging.{ill-formed, in-array, as-many-doors, route-judged}
-use borrow.Author.Needs.{needs}
 use Rattle.validate.proofs.validate_plan.Statement.{statement}
 use Rattle.validate.proofs.validate_plan.Tie as tie
 
@@ -21,32 +20,16 @@ count c = tasks-are (viewed (reads-laid (reads c)) (c .pre .1))
 abbrev start : tie.After-read-doors → tie.Start
 start c = c .before .before .before .before .before .before .before
 
-ill-formed-requires : tie.Need-ill-formed-requires
-ill-formed-requires c κs = search needs
-
+-- the bytes are ill-formed
 returns : tie.Need-returns
-returns c = let s = c .before .before .before .before in ill-formed _ _ (reads s) (count s) (sym (c .before .ill-formed .ensures) ∙ c .if1 .taken)
-
-start-in-requires : tie.Need-start-in-requires
-start-in-requires c κs = search needs
-
-slice-aggregate-read-doors : tie.Need-slice-aggregate-read-doors
-slice-aggregate-read-doors c = search needs
-
-read-doors-requires : tie.Need-read-doors-requires
-read-doors-requires c κs = search needs
-
-cost-in-requires : tie.Need-cost-in-requires
-cost-in-requires c κs = search needs
-
-cast-n : tie.Need-cast-n
-cast-n c = search needs
+returns c =
+    let s = c .before .before .before .before in
+    ill-formed (reads s) _ (count s) (sym (c .before .ill-formed .ensures) ∙ c .if1 .taken)
 
 array-share-prefix-doors : tie.Need-array-share-prefix-doors
 array-share-prefix-doors c =
     let r = c .before .before .before in
-    let s = start r in
-    in-array _ (s .args .q .now) (reads s) (count s) (r .read-doors .ensures)
+    in-array (reads (start r)) (start r .args .q .now) (count (start r)) (r .read-doors .ensures)
 
 slice-aggregate-validate-route : tie.Need-slice-aggregate-validate-route
 slice-aggregate-validate-route c = sym (length-take-le _ _ (array-share-prefix-doors (c .before)))
@@ -55,28 +38,17 @@ validate-route-requires : tie.Need-validate-route-requires
 validate-route-requires c κs =
     let r = c .before .before .before .before in
     let s = start r in
-    (s .pre .0, s .pre .1, as-many-doors _ (s .args .q .now) (reads s) (count s) (r .read-doors .ensures))
+    (s .pre .0, s .pre .1, as-many-doors (reads s) (s .args .q .now) (count s) (r .read-doors .ensures))
 
+-- they are not, and the route was judged
 returns-2 : tie.Need-returns-2
 returns-2 c =
     let r = c .before .before .before .before .before in
     let e = r .before .before .before in
     let s = start r in
-    route-judged _ _ (reads s) (count s) (r .read-doors .ensures) (sym (e .before .ill-formed .ensures) ∙ e .if1 .left) (r .before .before .start-in .ensures)
-    (c .before .before .before .cost-in .ensures) (c .validate-route .ensures)
+    route-judged (reads s) _ (count s) (r .read-doors .ensures) (sym (e .before .ill-formed .ensures) ∙ e .if1 .left)
+    (r .before .before .start-in .ensures) (c .before .before .before .cost-in .ensures) (c .validate-route .ensures)
 
 pub validate-plan-spec : {M : Type 1} → statement M
-validate-plan-spec =
-    tie.close
-    (tie.spec
-    ill-formed-requires
-    returns
-    start-in-requires
-    slice-aggregate-read-doors
-    read-doors-requires
-    cost-in-requires
-    cast-n
-    array-share-prefix-doors
-    slice-aggregate-validate-route
-    validate-route-requires
-    returns-2)
+validate-plan-spec = tie.close (tie.spec (λ c κs. search needs) returns (λ c κs. search needs) (λ c. search needs) (λ c κs. search needs)
+    (λ c κs. search needs) (λ c. search needs) array-share-prefix-doors slice-aggregate-validate-route validate-route-requires returns-2)

@@ -1,29 +1,16 @@
--- Each test that did not apply is one of the definition's list, and the first that applies is its answer. Past 31 to 33 the route is a solution, which can be costed because no
--- essential list has a load below zero. Assumes nothing.
-use mathlib.Core.Path.{_≡_, sym, ap, _∙_}
-use mathlib.Core.Bool.{false}
-use mathlib.Core.List.{List, map}
-use Prim.Native.Nat.{ℕ, _≤_}
-use native.Mathlib.Omega.{arith}
-use lib.ListN.{length, take}
-use lib.Seq.{length-take-le}
-use Rattle.model.specs.SheetLayout.{layoutOf, decode}
-use Rattle.model.specs.PlanLayout.{maxPlanDoors}
-use Rattle.model.specs.Validating.{notInSheet, doneTwice, breaksPair}
-use Rattle.model.proofs.Elements.{are-bytes}
-use Rattle.model.proofs.Loads.{light, loads-hold}
-use Rattle.model.proofs.Ranges.{in-range, least-counts}
-use Rattle.model.proofs.Reading.{Reads, counts-read}
-use Rattle.model.proofs.Calls.{reads-sheet}
+-- Each test that was passed is known where the next is made, so that the first that applies gives the definition's answer. Assumes nothing.
+use Rattle.model.proofs.Basics.{_≡_, sym, _∙_, false, List, ℕ, _≤_, arith, length, take, length-take-le, needs}
+use Rattle.model.specs.{decode, maxPlanDoors, notInSheet, doneTwice, breaksPair}
+use Rattle.model.proofs.Tools.Elements.{are-bytes}
+use Rattle.model.proofs.Calls.Interface.{reads-sheet}
 use Rattle.view.specs.Views.{Viewed}
 use Rattle.sheet.proofs.Laid.{viewed, reads-laid}
-use Rattle.cost.proofs.Routes.{costable}
-use Rattle.validate.proofs.Judging.{few-tasks, not-in-sheet, doors-in, start-in, tasks-in, tasks-small, done-twice, wrong-order, solves, wrong-cost, right-cost}
-use borrow.Author.Needs.{needs}
+use Rattle.validate.proofs.Judging.{Routed, ranges, few-tasks, few-doors, not-in-sheet, doors-in, start-in, tasks-in, tasks-small}
+use Rattle.validate.proofs.Judging.{done-twice, wrong-order, solves, wrong-cost, right-cost}
 use Rattle.validate.proofs.validate_route.Statement.{statement}
 use Rattle.validate.proofs.validate_route.Tie as tie
 
--- ---- the sheet
+-- ---- the sheet and the route
 
 abbrev sheet : tie.Start → List ℕ
 sheet c = c .args .s .now
@@ -31,154 +18,109 @@ sheet c = c .args .s .now
 abbrev doors : tie.Start → List ℕ
 doors c = c .args .doors .now
 
-reads : (c : tie.Start) → Reads (sheet c)
-reads c = reads-sheet (sheet c) (c .pre .0)
+routed : (c : tie.Start) → Routed (sheet c) (c .args .start) (doors c) (c .args .stated)
+routed c = record { reads = reads-sheet (sheet c) (c .pre .0); size = c .pre .2 }
 
 view : (c : tie.Start) → Viewed (sheet c) (c .args .v)
-view c = viewed (reads-laid (reads c)) (c .pre .1)
-
--- no more doors than a plan has
-few-doors : (c : tie.Start) → length (doors c) ≤ maxPlanDoors
-few-doors c = rw (c .pre .2) (counts-read (sheet c) (reads c) .tasks)
+view c = viewed (reads-laid (routed c .reads)) (c .pre .1)
 
 -- ---- the tests that were passed, and the tasks of the doors
 
-abbrev at1 : tie.Else1 → tie.Start
-at1 c = c .before .before .before .before
+abbrev entered : tie.Else1 → tie.Start
+entered c = c .before .before .before .before
 
-abbrev at2 : tie.Else2 → tie.After-tasks-of
-at2 c = c .before .before .before
-
-abbrev at3 : tie.Else3 → tie.Else2
-at3 c = c .before .before .before
-
-known : (c : tie.Else1) → notInSheet (decode (sheet (at1 c))) (at1 c .args .start) (doors (at1 c)) ≡ false
+known : (c : tie.Else1) → notInSheet (decode (sheet (entered c))) (entered c .args .start) (doors (entered c)) ≡ false
 known c = sym (c .before .not-in-sheet .ensures) ∙ c .if1 .left
 
-fits : (c : tie.After-tasks-of) → length (doors (at1 (c .before))) ≤ length (c .tasks-of .result)
+fits : (c : tie.After-tasks-of) → length (doors (entered (c .before))) ≤ length (c .tasks-of .result)
 fits c =
     let twelve : length (c .tasks-of .result) ≡ maxPlanDoors = search needs in
-    omega (arith, few-doors (at1 (c .before)))
+    omega (arith, few-doors (routed (entered (c .before))))
 
--- what stands in the front of the array
-tasks-are : (c : tie.After-tasks-of) → let s = at1 (c .before) in take (length (doors s)) (c .tasks-of .result) ≡ map (decode (sheet s) .task) (doors s)
-tasks-are c = c .tasks-of .ensures
+abbrev listed : tie.Else2 → tie.After-tasks-of
+listed c = c .before .before .before
 
-once : (c : tie.Else2) → let s = at1 (at2 c .before) in doneTwice (decode (sheet s)) (map (decode (sheet s) .task) (doors s)) ≡ false
-once c = let s = at1 (at2 c .before) in sym (ap (doneTwice (decode (sheet s))) (tasks-are (at2 c))) ∙ sym (c .before .done-twice .ensures) ∙ c .if2 .left
+abbrev tasks : tie.After-tasks-of → List ℕ
+tasks c = take (length (doors (entered (c .before)))) (c .tasks-of .result)
 
-ordered : (c : tie.Else3) → let s = at1 (at2 (at3 c) .before) in breaksPair (decode (sheet s)) (map (decode (sheet s) .task) (doors s)) ≡ false
-ordered c =
-    let s = at1 (at2 (at3 c) .before) in
-    sym (ap (breaksPair (decode (sheet s))) (tasks-are (at2 (at3 c)))) ∙ sym (c .before .breaks-pair .ensures) ∙ c .if3 .left
+once : (c : tie.Else2) → doneTwice (decode (sheet (entered (listed c .before)))) (tasks (listed c)) ≡ false
+once c = sym (c .before .done-twice .ensures) ∙ c .if2 .left
+
+ordered : (c : tie.Else3) → let l = listed (c .before .before) in breaksPair (decode (sheet (entered (l .before)))) (tasks l) ≡ false
+ordered c = sym (c .before .breaks-pair .ensures) ∙ c .if3 .left
 
 -- ---- the answers
 
 not-in-sheet-requires : tie.Need-not-in-sheet-requires
 not-in-sheet-requires c κs = view (c .before .before)
 
+-- 31 applies
 returns : tie.Need-returns
-returns c = let s = c .before .before .before .before in not-in-sheet _ (reads s) _ _ _ (s .pre .2) (sym (c .before .not-in-sheet .ensures) ∙ c .if1 .taken)
+returns c = not-in-sheet (routed (c .before .before .before .before)) (sym (c .before .not-in-sheet .ensures) ∙ c .if1 .taken)
 
 tasks-of-requires : tie.Need-tasks-of-requires
-tasks-of-requires c κs = let s = at1 c in (view s, doors-in _ (reads s) _ _ 0 (s .pre .2) (known c), few-doors s)
+tasks-of-requires c κs = let s = entered c in (view s, doors-in (routed s) (known c), few-doors (routed s))
 
-array-share-prefix-tasks : tie.Need-array-share-prefix-tasks
-array-share-prefix-tasks c = fits c
-
-slice-aggregate-done-twice : tie.Need-slice-aggregate-done-twice
-slice-aggregate-done-twice c = sym (length-take-le _ _ (fits (c .before)))
+slice-aggregate-tasks : tie.Need-slice-aggregate-tasks
+slice-aggregate-tasks c = sym (length-take-le _ _ (fits (c .before)))
 
 done-twice-requires : tie.Need-done-twice-requires
 done-twice-requires c κs =
     let e = c .before .before in
-    let s = at1 e in
-    (rw (c .before .tasks-of .ensures) (tasks-in _ (reads s) _ _ 0 (s .pre .2) (known e)), omega (arith, few-tasks _ (reads s) 0 (doors s) 0 (s .pre .2)))
+    let R = routed (entered e) in
+    (tasks-in R (known e) (c .before .tasks-of .ensures), omega (arith, few-tasks R))
 
+-- 32 applies
 returns-2 : tie.Need-returns-2
 returns-2 c =
-    let e = c .before .before .before in
-    let s = at1 (e .before) in
-    done-twice _ (reads s) _ _ _ (s .pre .2) (known (e .before)) (sym (ap (doneTwice (decode (sheet s))) (tasks-are e)) ∙ sym (c .before .done-twice .ensures) ∙ c .if2 .taken)
-
-array-share-prefix-tasks-2 : tie.Need-array-share-prefix-tasks-2
-array-share-prefix-tasks-2 c = fits (at2 c)
-
-slice-aggregate-breaks-pair : tie.Need-slice-aggregate-breaks-pair
-slice-aggregate-breaks-pair c = sym (length-take-le _ _ (fits (at2 (c .before))))
+    let l = c .before .before .before in
+    let e = l .before in
+    done-twice (routed (entered e)) (known e) (l .tasks-of .ensures) (sym (c .before .done-twice .ensures) ∙ c .if2 .taken)
 
 breaks-pair-requires : tie.Need-breaks-pair-requires
 breaks-pair-requires c κs =
-    let e = at2 (c .before) in
-    let s = at1 (e .before) in
-    let r = reads s in
-    (view s, in-range (layoutOf (sheet s)) (decode (sheet s)) (r .passed-tests .ranges), few-tasks _ r 0 (doors s) 0 (s .pre .2), rw (tasks-are e) (tasks-small _ r _ _ 0 (s .pre .2) (known (e .before))))
+    let l = listed c in
+    let e = l .before in
+    let R = routed (entered e) in
+    (view (entered e), ranges R, few-tasks R, tasks-small R (known e) (l .tasks-of .ensures))
 
+-- 33 applies
 returns-3 : tie.Need-returns-3
 returns-3 c =
-    let e2 = c .before .before .before in
-    let e = at2 e2 in
-    let s = at1 (e .before) in
-    wrong-order _ (reads s) _ _ _ (s .pre .2) (known (e .before)) (once e2) (sym (ap (breaksPair (decode (sheet s))) (tasks-are e)) ∙ sym (c .before .breaks-pair .ensures) ∙ c .if3 .taken)
+    let o = c .before .before in
+    let e = listed o .before in
+    wrong-order (routed (entered e)) (known e) (listed o .tasks-of .ensures) (once o)
+    (sym (c .before .breaks-pair .ensures) ∙ c .if3 .taken)
 
 start-point-requires : tie.Need-start-point-requires
-start-point-requires c κs =
-    let e = at2 (at3 c) .before in
-    let s = at1 e in
-    (view s, start-in _ (reads s) _ (doors s) 0 (s .pre .2) (known e))
+start-point-requires c κs = let e = listed (c .before .before) .before in (view (entered e), start-in (routed (entered e)) (known e))
 
-array-share-prefix-tasks-3 : tie.Need-array-share-prefix-tasks-3
-array-share-prefix-tasks-3 c = fits (at2 (at3 (c .before)))
+cost-requires : tie.Need-cost-requires
+cost-requires c κs =
+    let o = c .before .before .before in
+    let e = listed o .before in
+    let bytes = are-bytes (sheet (entered e)) (e .before .before .before .shared-slice-known .given) in
+    solves (routed (entered e)) (known e) (listed o .tasks-of .ensures) (once o) (ordered (c .before)) (c .start-point .ensures) bytes
+    (view (entered e))
 
-slice-aggregate-route : tie.Need-slice-aggregate-route
-slice-aggregate-route c = sym (length-take-le _ _ (fits (at2 (at3 (c .before .before)))))
-
-route-requires : tie.Need-route-requires
-route-requires c κs =
-    let e3 = c .before .before in
-    let e2 = at3 e3 in
-    let e = at2 e2 in
-    let s = at1 (e .before) in
-    let r = reads s in
-    let b = sheet s in
-    costable (are-bytes b (e .before .before .before .before .shared-slice-known .given)) (view s) (counts-read b r) (in-range (layoutOf b) (decode b) (r .passed-tests .ranges))
-    (least-counts (layoutOf b) (decode b) (r .passed-tests .ranges)) (loads-hold (decode b) (light (decode b) (r .light))) (s .args .start)
-    (solves b r _ (doors s) 0 (s .pre .2) (known (e .before)) (once e2) (ordered e3)) (c .before .start-point .ensures) (tasks-are e)
-
+-- 34 applies
 returns-4 : tie.Need-returns-4
 returns-4 c =
-    let e3 = c .before .before .before .before in
-    let e2 = at3 e3 in
-    let e = at2 e2 .before in
-    let s = at1 e in
-    wrong-cost _ (reads s) _ _ _ (s .pre .2) (known e) (once e2) (ordered e3) (c .before .before .before .start-point .ensures) (c .before .route .ensures) (λ q. omega arith)
+    let p = c .before .before in
+    let o = p .before .before .before in
+    let e = listed o .before in
+    wrong-cost (routed (entered e)) (known e) (listed o .tasks-of .ensures) (once o) (ordered (p .before)) (p .start-point .ensures)
+    (c .before .cost .ensures) (λ q. omega arith)
 
+-- no test applies
 returns-5 : tie.Need-returns-5
 returns-5 c =
-    let e3 = c .before .before .before .before in
-    let e2 = at3 e3 in
-    let e = at2 e2 .before in
-    let s = at1 e in
-    right-cost _ (reads s) _ _ _ (s .pre .2) (known e) (once e2) (ordered e3) (c .before .before .before .start-point .ensures) (c .before .route .ensures) (omega arith)
+    let p = c .before .before in
+    let o = p .before .before .before in
+    let e = listed o .before in
+    right-cost (routed (entered e)) (known e) (listed o .tasks-of .ensures) (once o) (ordered (p .before)) (p .start-point .ensures)
+    (c .before .cost .ensures) (omega arith)
 
 pub validate-route-spec : {M : Type 1} → statement M
-validate-route-spec =
-    tie.close
-    (tie.spec
-    not-in-sheet-requires
-    returns
-    tasks-of-requires
-    array-share-prefix-tasks
-    slice-aggregate-done-twice
-    done-twice-requires
-    returns-2
-    array-share-prefix-tasks-2
-    slice-aggregate-breaks-pair
-    breaks-pair-requires
-    returns-3
-    start-point-requires
-    array-share-prefix-tasks-3
-    slice-aggregate-route
-    route-requires
-    returns-4
-    returns-5)
+validate-route-spec = tie.close (tie.spec not-in-sheet-requires returns tasks-of-requires fits slice-aggregate-tasks done-twice-requires
+    returns-2 breaks-pair-requires returns-3 start-point-requires cost-requires returns-4 returns-5)

@@ -1,40 +1,18 @@
--- What planning answered is the definition's answer, by the case of the enum; cells and buffer were lent on. Assumes nothing.
-use mathlib.Core.Path.{sym, ap, _∙_}
+-- What planning answered is the definition's answer: the enum's case tells which it is, and then the status and the cost compute. Cells
+-- and buffer were lent on. Assumes nothing.
+use Rattle.model.proofs.Basics.{sym, ap, _∙_, needs}
 use Rattle.planner.specs.Answers.{answerOf}
-use borrow.Author.Needs.{needs}
 use Rattle.vanplan.proofs.vanplan_plan.Statement.{statement}
 use Rattle.vanplan.proofs.vanplan_plan.Tie as tie
 
-plan-requires : tie.Need-plan-requires
-plan-requires c κs = search needs
-
-enum-known-planning : tie.Need-enum-known-planning
-enum-known-planning c = search needs
-
-enum-known-planning-2 : tie.Need-enum-known-planning-2
-enum-known-planning-2 c = search needs
-
-number-of-requires : tie.Need-number-of-requires
-number-of-requires c κs = search needs
-
-same-length : tie.Need-same-length
-same-length c = search needs
-
-same-length-2 : tie.Need-same-length-2
-same-length-2 c = search needs
-
+-- a plan was made
 returns : tie.Need-returns
 returns c =
     let w = c .before .before .before .before .before .before .before .plan .ensures in
     let e = sym (w .0) ∙ ap answerOf (c .before .planning .given .1) in
     (rw e, (w .1 .0, (w .1 .1, rw e)))
 
-same-length-3 : tie.Need-same-length-3
-same-length-3 c = search needs
-
-same-length-4 : tie.Need-same-length-4
-same-length-4 c = search needs
-
+-- refused
 returns-2 : tie.Need-returns-2
 returns-2 c =
     let w = c .before .before .before .before .before .before .before .before .plan .ensures in
@@ -42,16 +20,5 @@ returns-2 c =
     (rw e (c .number-of .ensures), (w .1 .0, (w .1 .1, rw e)))
 
 pub vanplan-plan-spec : {M : Type 1} → statement M
-vanplan-plan-spec =
-    tie.close
-    (tie.spec
-    plan-requires
-    enum-known-planning
-    enum-known-planning-2
-    number-of-requires
-    same-length
-    same-length-2
-    returns
-    same-length-3
-    same-length-4
-    returns-2)
+vanplan-plan-spec = tie.close (tie.spec (λ c κs. search needs) (λ c. search needs) (λ c. search needs) (λ c κs. search needs)
+    (λ c. search needs) (λ c. search needs) returns (λ c. search needs) (λ c. search needs) returns-2)

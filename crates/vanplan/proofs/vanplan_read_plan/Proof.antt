@@ -1,43 +1,19 @@
--- What reading answered is the definition's answer, by the case of the enum; the places were lent on. Assumes nothing.
-use mathlib.Core.Path.{sym, ap, _∙_}
+-- What reading answered is the definition's answer: the enum's case tells the status. The places were lent on. Assumes nothing.
+use Rattle.model.proofs.Basics.{sym, ap, _∙_, needs}
 use Rattle.plan.specs.Answers.{statusOf}
-use borrow.Author.Needs.{needs}
 use Rattle.vanplan.proofs.vanplan_read_plan.Statement.{statement}
 use Rattle.vanplan.proofs.vanplan_read_plan.Tie as tie
 
-read-requires : tie.Need-read-requires
-read-requires c κs = search needs
-
-enum-told : tie.Need-enum-told
-enum-told c = search needs
-
-enum-known-reading : tie.Need-enum-known-reading
-enum-known-reading c = search needs
-
-number-of-requires : tie.Need-number-of-requires
-number-of-requires c κs = search needs
-
-same-length : tie.Need-same-length
-same-length c = search needs
-
+-- the plan reads
 returns : tie.Need-returns
 returns c = let e = c .before .before .before .before .read .ensures in (sym (ap statusOf (c .enum-told .given .1)) ∙ e .0, e .1)
 
-same-length-2 : tie.Need-same-length-2
-same-length-2 c = search needs
-
+-- refused
 returns-2 : tie.Need-returns-2
-returns-2 c = let e = c .before .before .before .before .before .before .read .ensures in (c .number-of .ensures ∙ sym (ap statusOf (c .before .before .reading .given .1)) ∙ e .0, e .1)
+returns-2 c =
+    let e = c .before .before .before .before .before .before .read .ensures in
+    (c .number-of .ensures ∙ sym (ap statusOf (c .before .before .reading .given .1)) ∙ e .0, e .1)
 
 pub vanplan-read-plan-spec : {M : Type 1} → statement M
-vanplan-read-plan-spec =
-    tie.close
-    (tie.spec
-    read-requires
-    enum-told
-    enum-known-reading
-    number-of-requires
-    same-length
-    returns
-    same-length-2
-    returns-2)
+vanplan-read-plan-spec = tie.close (tie.spec (λ c κs. search needs) (λ c. search needs) (λ c. search needs) (λ c κs. search needs)
+    (λ c. search needs) returns (λ c. search needs) returns-2)

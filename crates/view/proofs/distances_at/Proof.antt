@@ -1,10 +1,7 @@
 -- The distances from p begin before the one from p to itself, which lies within the bytes. Assumes nothing.
-use Prim.Native.Nat.{_+_, _*_, _≤_}
-use native.Mathlib.Omega.{arith}
-use lib.ListN.{length}
+use Rattle.model.proofs.Basics.{_+_, _*_, _≤_, arith, length, needs}
 use Rattle.view.specs.Views.{distancesAt}
 use Rattle.view.proofs.Within.{row-within}
-use borrow.Author.Needs.{needs}
 use Rattle.view.proofs.distances_at.Statement.{statement}
 use Rattle.view.proofs.distances_at.Tie as tie
 
@@ -12,17 +9,8 @@ held : (c : tie.Start) → c .args .v .at .distances + c .args .p * c .args .v .
 unfolding distancesAt
 held c = row-within (c .pre .0) _ _ (c .pre .1) (c .pre .1)
 
-cast-result : tie.Need-cast-result
-cast-result c = search needs
-
-cast-result-2 : tie.Need-cast-result-2
-cast-result-2 c = search needs
-
 mul-result : tie.Need-mul-result
 mul-result c = omega (arith, held (c .before .before))
-
-cast-result-3 : tie.Need-cast-result-3
-cast-result-3 c = search needs
 
 mul-result-2 : tie.Need-mul-result-2
 mul-result-2 c = omega (arith, held (c .before .before))
@@ -35,4 +23,5 @@ unfolding distancesAt
 returns c = search needs
 
 pub distances-at-spec : {M : Type 1} → statement M
-distances-at-spec = tie.close (tie.spec cast-result cast-result-2 mul-result cast-result-3 mul-result-2 add-result returns)
+distances-at-spec = tie.close (tie.spec (λ c. search needs) (λ c. search needs) mul-result (λ c. search needs) mul-result-2 add-result
+    returns)

@@ -1,6 +1,6 @@
 -- Bytes 2 and 3, which every sheet has. Assumes nothing.
-use native.Mathlib.Omega.{arith}
-use Rattle.model.specs.SheetLayout.{decodeBy, decode}
+use Rattle.model.proofs.Basics.{arith}
+use Rattle.model.specs.{decodeBy, decode}
 use Rattle.view.proofs.Within.{head-within}
 use Rattle.view.proofs.end_load.Statement.{statement}
 use Rattle.view.proofs.end_load.Tie as tie

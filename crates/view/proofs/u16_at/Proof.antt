@@ -1,23 +1,11 @@
--- Both bytes are there. Assumes nothing.
-use mathlib.Core.Path.{sym}
-use Prim.Native.Nat.{_+_}
-use native.Mathlib.Omega.{arith}
+-- Both bytes are there, and each is below 256. Assumes nothing.
+use Rattle.model.proofs.Basics.{sym, _+_, arith, needs}
 use Rattle.number.proofs.Bytes.{number-two}
-use borrow.Author.Needs.{needs}
 use Rattle.view.proofs.u16_at.Statement.{statement}
 use Rattle.view.proofs.u16_at.Tie as tie
 
-shared-slice-read-result : tie.Need-shared-slice-read-result
-shared-slice-read-result c = search needs
-
 cast-result : tie.Need-cast-result
 cast-result c = omega (arith, c .shared-slice-known .given (c .before .args .i))
-
-add-result : tie.Need-add-result
-add-result c = search needs
-
-shared-slice-read-result-2 : tie.Need-shared-slice-read-result-2
-shared-slice-read-result-2 c = search needs
 
 cast-result-2 : tie.Need-cast-result-2
 cast-result-2 c = omega (arith, c .shared-slice-known2 .given (c .before .before .args .i + 1))
@@ -26,20 +14,13 @@ mul-result : tie.Need-mul-result
 mul-result c = omega (arith, c .shared-slice-known2 .given (c .before .before .args .i + 1))
 
 add-result-2 : tie.Need-add-result-2
-add-result-2 c = omega (arith, c .before .shared-slice-known .given (c .before .before .args .i), c .shared-slice-known2 .given (c .before .before .args .i + 1))
+add-result-2 c =
+    let i = c .before .before .args .i in
+    omega (arith, c .shared-slice-known2 .given i, c .shared-slice-known2 .given (i + 1))
 
 returns : tie.Need-returns
 returns c = sym (number-two _ _)
 
 pub u16-at-spec : {M : Type 1} → statement M
-u16-at-spec =
-    tie.close
-    (tie.spec
-    shared-slice-read-result
-    cast-result
-    add-result
-    shared-slice-read-result-2
-    cast-result-2
-    mul-result
-    add-result-2
-    returns)
+u16-at-spec = tie.close (tie.spec (λ c. search needs) cast-result (λ c. search needs) (λ c. search needs) cast-result-2 mul-result
+    add-result-2 returns)

@@ -1,17 +1,9 @@
 -- The head ends at byte 46. Assumes nothing.
-use mathlib.Core.Path.{refl}
-use Rattle.model.specs.SheetLayout.{lineAt}
-use Rattle.model.specs.Faults.{tooShort}
-use borrow.Author.Needs.{needs}
+use Rattle.model.proofs.Basics.{refl, needs}
+use Rattle.model.specs.{lineAt, tooShort}
 use Rattle.sheet.proofs.layout.too_short.Statement.{statement}
 use Rattle.sheet.proofs.layout.too_short.Tie as tie
 
-cast-result : tie.Need-cast-result
-cast-result c = search needs
-
-returns : tie.Need-returns
-unfolding lineAt tooShort
-returns c = refl
-
 pub too-short-spec : {M : Type 1} → statement M
-too-short-spec = tie.close (tie.spec cast-result returns)
+unfolding lineAt tooShort
+too-short-spec = tie.close (tie.spec (λ c. search needs) (λ c. refl))

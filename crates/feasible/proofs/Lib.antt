@@ -1,0 +1,4 @@
+pub mod Served
+pub mod Lightest
+pub mod Waiting
+pub mod Striking

@@ -1,0 +1,19 @@
+-- The theory: a process run to its end, the completions of a round as one, that some exist, the cheapest plan; loads, charges, how large a sum gets.
+pub mod Process
+pub mod ProcessStarts
+pub mod FirstTask
+pub mod Existence
+pub mod Completions
+pub mod Ranks
+pub mod Enumerations
+pub mod Solutions
+pub mod OpenAlong
+pub mod Cheapest
+pub mod NoOrder
+pub mod Loads
+pub mod Charges
+pub mod Bounds
+pub mod Driving
+pub mod Starts
+pub mod Agreement
+pub mod Meanings

@@ -1,0 +1,44 @@
+-- The door, the watched list and the least count are held to their limits, each only where the ones before are in range. Assumes nothing.
+use Rattle.model.proofs.Basics.{_≡_, sym, _∙_, ⊎-elim, not, _||_, _^_, leb, lt-ltb, le-ltb, le-leb, lt-leb, needs}
+use Rattle.model.specs.{isBetween, kind1, layoutOf, decode, badRule}
+use Rattle.model.proofs.Tools.Tests.{or-last, outside}
+use Rattle.view.proofs.Counted.{doors-are}
+use Rattle.range.proofs.bad_rule.Statement.{statement}
+use Rattle.range.proofs.bad_rule.Tie as tie
+
+count-is : (c : tie.Joined1) →
+    let a = c .before .before .before .args in
+    c .if1 .bad-count ≡ not (isBetween 1 12 (decode (a .s .now) .leastCount (a .i)))
+count-is c =
+    let r = c .before .least-count in
+    ⊎-elim
+    (λ w. w .1 ∙ rw (← r .ensures, ← outside 1 12 (r .result), lt-ltb (r .result) 1 (w .0 .taken)))
+    (λ w. w .1 ∙ rw (← r .ensures, ← outside 1 12 (r .result), le-ltb (r .result) 1 (w .0 .left)))
+    (c .if1 .came)
+
+-- the first two tests
+two : (c : tie.Joined2) →
+    let a = c .before .before .before .before .before .before .args in
+    let S = decode (a .s .now) in
+    c .if2 .if3 ≡ (leb (S .doors) (S .ruleDoor (a .i)) || leb (2 ^ S .tasks) (S .watched (a .i)))
+two c =
+    let p = c .before .before .before .before .before .before .pre in
+    let r = c .before .before .rule-door .ensures in
+    ⊎-elim
+    (λ w. w .1 ∙ rw (← doors-are (p .0), ← r, le-leb _ _ (w .0 .taken)))
+    (λ w. w .2 ∙ rw (← doors-are (p .0), ← r, ← p .2, ← w .1 .ensures, lt-leb _ _ (w .0 .left)))
+    (c .if2 .came)
+
+-- the door or a watched task is out of range
+returns : tie.Need-returns
+unfolding badRule layoutOf kind1
+returns c = rw (sym (two (c .before)) ∙ c .if3 .taken) (c .if3 .taken)
+
+-- neither is: the least count decides
+returns-2 : tie.Need-returns-2
+unfolding badRule layoutOf kind1
+returns-2 c = or-last _ _ _ (sym (two (c .before)) ∙ c .if3 .left) (count-is (c .before .before .before .before))
+
+pub bad-rule-spec : {M : Type 1} → statement M
+bad-rule-spec = tie.close (tie.spec (λ c κs. search needs) (λ c κs. search needs) (λ c κs. search needs) (λ c. search needs) returns
+    returns-2)

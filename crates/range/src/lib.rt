@@ -1,0 +1,115 @@
+// Fault 14: tasks, points, doors, least counts and watched tasks within their ranges.
+ghost use mathlib.Core.Path.{_≡_};
+ghost use Prim.Native.Nat.{_^_, _≤_, _<_};
+ghost use Rattle.model.specs.Method.{maxListed};
+ghost use Rattle.model.specs.SheetLayout.{layoutOf, decode};
+ghost use Rattle.model.specs.Faults.{badDoor, badStart, badPair, badRule, someBadDoor, someBadStart, someBadPair, someBadRule, outOfRange};
+ghost use Rattle.view.specs.Views.{Viewed};
+use view::View;
+
+const MAX_LEAST_COUNT: u16 = 12;
+
+fn bad_door(s: &[u8], v: View, d: u16) -> bool
+    requires { ⌜ Viewed (now s) v × (d < decode (now s) .doors) ⌝ }
+    ensures { λ r. ⌜ r ≡ badDoor (decode (now (s .entry))) d ⌝ }
+{
+    let tasks = v.tasks;
+    let points = v.points;
+    tasks <= view::task(s, v, d)
+        || points <= view::arrive(s, v, d)
+        || points <= view::depart(s, v, d)
+}
+
+fn bad_start(s: &[u8], v: View, i: u16) -> bool
+    requires { ⌜ Viewed (now s) v × (i < decode (now s) .starts) ⌝ }
+    ensures { λ r. ⌜ r ≡ badStart (decode (now (s .entry))) i ⌝ }
+{
+    v.points <= view::start_point(s, v, i)
+}
+
+fn bad_pair(s: &[u8], v: View, i: u16) -> bool
+    requires { ⌜ Viewed (now s) v × (i < decode (now s) .pairs) ⌝ }
+    ensures { λ r. ⌜ r ≡ badPair (decode (now (s .entry))) i ⌝ }
+{
+    let tasks = v.tasks;
+    tasks <= view::sender(s, v, i) || tasks <= view::receiver(s, v, i)
+}
+
+// Of a sheet whose tasks have so many lists.
+fn bad_rule(s: &[u8], v: View, lists: u32, i: u16) -> bool
+    requires { ⌜ Viewed (now s) v × (i < decode (now s) .rules) × (lists ≡ 2 ^ decode (now s) .tasks) ⌝ }
+    ensures { λ r. ⌜ r ≡ badRule (layoutOf (now (s .entry))) (decode (now (s .entry))) i ⌝ }
+{
+    let least = view::least_count(s, v, i);
+    let bad_count = least < 1 || MAX_LEAST_COUNT < least;
+    v.doors <= view::rule_door(s, v, i) || lists <= view::watched(s, v, i) as u32 || bad_count
+}
+
+fn some_bad_door(s: &[u8], v: View) -> bool
+    requires { ⌜ Viewed (now s) v ⌝ }
+    ensures { λ r. ⌜ r ≡ someBadDoor (decode (now (s .entry))) ⌝ }
+{
+    let doors = v.doors;
+    let mut d: u16 = 0;
+    while d < doors {
+        if bad_door(s, v, d) {
+            return true;
+        }
+        d = d + 1;
+    }
+    false
+}
+
+fn some_bad_start(s: &[u8], v: View) -> bool
+    requires { ⌜ Viewed (now s) v ⌝ }
+    ensures { λ r. ⌜ r ≡ someBadStart (decode (now (s .entry))) ⌝ }
+{
+    let starts = v.starts;
+    let mut i: u16 = 0;
+    while i < starts {
+        if bad_start(s, v, i) {
+            return true;
+        }
+        i = i + 1;
+    }
+    false
+}
+
+fn some_bad_pair(s: &[u8], v: View) -> bool
+    requires { ⌜ Viewed (now s) v ⌝ }
+    ensures { λ r. ⌜ r ≡ someBadPair (decode (now (s .entry))) ⌝ }
+{
+    let pairs = v.pairs;
+    let mut i: u16 = 0;
+    while i < pairs {
+        if bad_pair(s, v, i) {
+            return true;
+        }
+        i = i + 1;
+    }
+    false
+}
+
+// A number of tasks that the table of powers serves is asked for: fault 12 is tested first.
+fn some_bad_rule(s: &[u8], v: View) -> bool
+    requires { ⌜ Viewed (now s) v × (decode (now s) .tasks ≤ maxListed) ⌝ }
+    ensures { λ r. ⌜ r ≡ someBadRule (layoutOf (now (s .entry))) (decode (now (s .entry))) ⌝ }
+{
+    let rules = v.rules;
+    let lists = tasklist::lists(v.tasks);
+    let mut i: u16 = 0;
+    while i < rules {
+        if bad_rule(s, v, lists, i) {
+            return true;
+        }
+        i = i + 1;
+    }
+    false
+}
+
+pub fn out_of_range(s: &[u8], v: View) -> bool
+    requires { ⌜ Viewed (now s) v × (decode (now s) .tasks ≤ maxListed) ⌝ }
+    ensures { λ r. ⌜ r ≡ outOfRange (layoutOf (now (s .entry))) (decode (now (s .entry))) ⌝ }
+{
+    some_bad_door(s, v) || some_bad_start(s, v) || some_bad_pair(s, v) || some_bad_rule(s, v)
+}
