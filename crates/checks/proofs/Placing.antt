@@ -1,13 +1,12 @@
 -- Tasks done so far as a list: joining a task that is not in it counts it once more. Where each task is first done, as an array filled
 -- from the last task to the first: one task more changes its own place alone. Assumes nothing.
-use Rattle.model.proofs.Basics.{_≡_, refl, sym, ap, _∙_, _≢_, Bool, true, false, cond, List, _++_, map, ℕ, suc, _+_, _≤_, _<_}
+use Rattle.model.proofs.Basics.{_≡_, refl, sym, ap, _∙_, _≢_, Bool, true, false, cond, List, map, ℕ, suc, _+_, _≤_, _<_}
 use Rattle.model.proofs.Basics.{zero-add, add-zero, arith, eqb, ltb, length, getD, take, drop, set, replicate, drop-of-length-le, drop-cons}
-use Rattle.model.proofs.Basics.{take-append-seam, drop-length, eqb-true, eqb-false, eq-eqb, ne-eqb, ltb-true, lt-ltb, le-ltb}
-use Rattle.model.specs.{mapBelow, allIn, countOf, indexOf, bit, member, with, maskBits, withIn, maxTasks, doneTwice}
+use Rattle.model.proofs.Basics.{length-map, take-at, drop-length, eqb-true, eqb-false, eq-eqb, ne-eqb, ltb-true, lt-ltb, le-ltb}
+use Rattle.model.specs.{mapBelow, allIn, countOf, indexOf, bit, member, with, maskBits, withIn, maxTasks, overwrite, doneTwice}
 use Rattle.model.specs.Sheet.{Sheet}
 use Rattle.model.proofs.Tools.Tests.{any-true, none-below}
 use Rattle.model.proofs.Tools.Elements.{in-at}
-use Rattle.model.proofs.Tools.Folds.{length-mapBelow}
 use Rattle.model.proofs.Tools.Walks.{from}
 use Rattle.model.proofs.Tools.Arrays.{Filled, map-places, map-set}
 use Rattle.model.proofs.TaskLists.Masks.{bit-lt, bit-none, member-bit, not-member-bit, with-same, with-other, with-in}
@@ -97,11 +96,12 @@ all-placed {ts} {at} {i} h l =
     let z : i ≡ 0 = omega arith in
     rw z at (h .places) ∙ ap (mapBelow maxTasks) (fun-ext (λ (t : ℕ). zero-add (indexOf t ts)))
 
--- ---- the front of an array that was filled with g of each element of xs
+-- ---- an array whose front was filled with g of each element of xs
 
-pub front-mapped : (g : ℕ → ℕ) (xs : List ℕ) {a b : List ℕ} {i : ℕ} → Filled (λ j. g (getD xs j 0)) a b i → i ≡ length xs
-    → take (length xs) b ≡ map g xs
-front-mapped g xs {a} h e =
-    let images : List ℕ = mapBelow (length xs) (λ j. g (getD xs j 0)) in
-    rw (h .so-far, e) (ap (λ (n : ℕ). take n (images ++ drop (length xs) a)) (sym (length-mapBelow (length xs) _))
-    ∙ take-append-seam images (drop (length xs) a) ∙ map-places g xs)
+pub all-mapped : (g : ℕ → ℕ) (xs : List ℕ) {a b : List ℕ} {i : ℕ} → Filled (λ j. g (getD xs j 0)) a b i → i ≡ length xs → b ≡ overwrite (map g xs) a
+unfolding overwrite
+all-mapped g xs h e = h .so-far ∙ rw (e, map-places g xs, length-map)
+
+pub front-mapped : (g : ℕ → ℕ) (xs a : List ℕ) → take (length xs) (overwrite (map g xs) a) ≡ map g xs
+unfolding overwrite
+front-mapped g xs a = take-at (map g xs) _ (length xs) (length-map xs g)

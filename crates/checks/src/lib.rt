@@ -4,8 +4,9 @@ ghost use mathlib.Core.Bool.{true};
 ghost use mathlib.Core.List.{map};
 ghost use Prim.Native.Nat.{_≤_, _<_};
 ghost use lib.Dec.{ltb};
-ghost use lib.ListN.{length, take};
+ghost use lib.ListN.{length, replicate};
 ghost use Rattle.model.specs.Folds.{mapBelow, allIn, indexOf};
+ghost use Rattle.model.specs.Bytes.{overwrite};
 ghost use Rattle.model.specs.Method.{maskBits};
 ghost use Rattle.model.specs.Passing.{InRange};
 ghost use Rattle.model.specs.Plans.{inSheet};
@@ -36,10 +37,10 @@ pub fn not_in_sheet(s: &[u8], v: View, start: u16, doors: &[u16]) -> bool
     false
 }
 
-// The task of each of the doors, at the front of an array.
+// The task of each of the doors, at the front of an array that holds 0 behind them.
 pub fn tasks_of(s: &[u8], v: View, doors: &[u16]) -> [u16; MAX_DOORS]
     requires { ⌜ Viewed (now s) v × (inSheet (decode (now s)) (now doors) ≡ true) × (length (now doors) ≤ maxPlanDoors) ⌝ }
-    ensures { λ r. ⌜ take (length (now (doors .entry))) r ≡ map (decode (now (s .entry)) .task) (now (doors .entry)) ⌝ }
+    ensures { λ r. ⌜ r ≡ overwrite (map (decode (now (s .entry)) .task) (now (doors .entry))) (replicate maxPlanDoors 0) ⌝ }
 {
     let mut tasks = [0u16; MAX_DOORS];
     let mut i: usize = 0;

@@ -3,7 +3,7 @@ use Rattle.model.proofs.Basics.{refl, _-_, _≤_, arith, length, getD, replicat
 use Rattle.model.specs.{decode, maxPlanDoors}
 use Rattle.model.proofs.Tools.Arrays.{Filled, none-filled, one-filled}
 use Rattle.model.proofs.Theory.Solutions.{door-in}
-use Rattle.checks.proofs.Placing.{front-mapped}
+use Rattle.checks.proofs.Placing.{all-mapped}
 use Rattle.checks.proofs.tasks_of.Statement.{statement}
 use Rattle.checks.proofs.tasks_of.Tie as tie
 
@@ -29,7 +29,7 @@ loop-again c = (omega arith, one-filled (c .before .before .before .loop .inv .1
 returns : tie.Need-returns Inv-loop μ-loop
 returns c =
     let a = c .before .before .before .before .args in
-    front-mapped (decode (a .s .now) .task) (a .doors .now) (c .before .loop .inv .1) (omega arith)
+    all-mapped (decode (a .s .now) .task) (a .doors .now) (c .before .loop .inv .1) (omega arith)
 
 pub tasks-of-spec : {M : Type 1} → statement M
 tasks-of-spec = tie.close (tie.spec Inv-loop μ-loop loop-holds (λ c. search needs) (λ c. search needs) task-requires (λ c. search needs)

@@ -1,10 +1,11 @@
 -- Each test that was passed is known where the next is made, so that the first that applies gives the definition's answer. Assumes nothing.
-use Rattle.model.proofs.Basics.{_≡_, sym, _∙_, false, List, ℕ, _≤_, arith, length, take, length-take-le, needs}
+use Rattle.model.proofs.Basics.{_≡_, sym, _∙_, false, List, map, ℕ, _≤_, arith, length, take, length-take-le, needs}
 use Rattle.model.specs.{decode, maxPlanDoors, notInSheet, doneTwice, breaksPair}
 use Rattle.model.proofs.Tools.Elements.{are-bytes}
 use Rattle.model.proofs.Calls.Interface.{reads-sheet}
 use Rattle.view.specs.Views.{Viewed}
 use Rattle.sheet.proofs.Laid.{viewed, reads-laid}
+use Rattle.checks.proofs.Placing.{front-mapped}
 use Rattle.validate.proofs.Judging.{Routed, ranges, few-tasks, few-doors, not-in-sheet, doors-in, start-in, tasks-in, tasks-small}
 use Rattle.validate.proofs.Judging.{done-twice, wrong-order, solves, wrong-cost, right-cost}
 use Rattle.validate.proofs.validate_route.Statement.{statement}
@@ -43,6 +44,9 @@ listed c = c .before .before .before
 abbrev tasks : tie.After-tasks-of → List ℕ
 tasks c = take (length (doors (entered (c .before)))) (c .tasks-of .result)
 
+tasks-are : (c : tie.After-tasks-of) → tasks c ≡ map (decode (sheet (entered (c .before))) .task) (doors (entered (c .before)))
+tasks-are c = let e = entered (c .before) in rw (c .tasks-of .ensures) (front-mapped (decode (sheet e) .task) (doors e) _)
+
 once : (c : tie.Else2) → doneTwice (decode (sheet (entered (listed c .before)))) (tasks (listed c)) ≡ false
 once c = sym (c .before .done-twice .ensures) ∙ c .if2 .left
 
@@ -68,28 +72,28 @@ done-twice-requires : tie.Need-done-twice-requires
 done-twice-requires c κs =
     let e = c .before .before in
     let R = routed (entered e) in
-    (tasks-in R (known e) (c .before .tasks-of .ensures), omega (arith, few-tasks R))
+    (tasks-in R (known e) (tasks-are (c .before)), omega (arith, few-tasks R))
 
 -- 32 applies
 returns-2 : tie.Need-returns-2
 returns-2 c =
     let l = c .before .before .before in
     let e = l .before in
-    done-twice (routed (entered e)) (known e) (l .tasks-of .ensures) (sym (c .before .done-twice .ensures) ∙ c .if2 .taken)
+    done-twice (routed (entered e)) (known e) (tasks-are l) (sym (c .before .done-twice .ensures) ∙ c .if2 .taken)
 
 breaks-pair-requires : tie.Need-breaks-pair-requires
 breaks-pair-requires c κs =
     let l = listed c in
     let e = l .before in
     let R = routed (entered e) in
-    (view (entered e), ranges R, few-tasks R, tasks-small R (known e) (l .tasks-of .ensures))
+    (view (entered e), ranges R, few-tasks R, tasks-small R (known e) (tasks-are l))
 
 -- 33 applies
 returns-3 : tie.Need-returns-3
 returns-3 c =
     let o = c .before .before in
     let e = listed o .before in
-    wrong-order (routed (entered e)) (known e) (listed o .tasks-of .ensures) (once o)
+    wrong-order (routed (entered e)) (known e) (tasks-are (listed o)) (once o)
     (sym (c .before .breaks-pair .ensures) ∙ c .if3 .taken)
 
 start-point-requires : tie.Need-start-point-requires
@@ -100,7 +104,7 @@ cost-requires c κs =
     let o = c .before .before .before in
     let e = listed o .before in
     let bytes = are-bytes (sheet (entered e)) (e .before .before .before .shared-slice-known .given) in
-    solves (routed (entered e)) (known e) (listed o .tasks-of .ensures) (once o) (ordered (c .before)) (c .start-point .ensures) bytes
+    solves (routed (entered e)) (known e) (tasks-are (listed o)) (once o) (ordered (c .before)) (c .start-point .ensures) bytes
     (view (entered e))
 
 -- 34 applies
@@ -109,7 +113,7 @@ returns-4 c =
     let p = c .before .before in
     let o = p .before .before .before in
     let e = listed o .before in
-    wrong-cost (routed (entered e)) (known e) (listed o .tasks-of .ensures) (once o) (ordered (p .before)) (p .start-point .ensures)
+    wrong-cost (routed (entered e)) (known e) (tasks-are (listed o)) (once o) (ordered (p .before)) (p .start-point .ensures)
     (c .before .cost .ensures) (λ q. omega arith)
 
 -- no test applies
@@ -118,7 +122,7 @@ returns-5 c =
     let p = c .before .before in
     let o = p .before .before .before in
     let e = listed o .before in
-    right-cost (routed (entered e)) (known e) (listed o .tasks-of .ensures) (once o) (ordered (p .before)) (p .start-point .ensures)
+    right-cost (routed (entered e)) (known e) (tasks-are (listed o)) (once o) (ordered (p .before)) (p .start-point .ensures)
     (c .before .cost .ensures) (omega arith)
 
 pub validate-route-spec : {M : Type 1} → statement M
