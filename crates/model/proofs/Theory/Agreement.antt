@@ -1,10 +1,10 @@
 -- Fields beyond a count mean nothing: two sheets that agree below their counts have the same solutions, costs and costs to go. Assumes nothing.
-use Rattle.model.proofs.Basics.{_≡_, ap, ap₂, _∙_, Bool, true, cond, _&&_, List, [], _∷_, map, ℕ, zero, suc, _+_, _≤_, _<_, arith}
+use Rattle.model.proofs.Basics.{_≡_, ap, ap₂, _∙_, Bool, true, cond, not, _&&_, _||_, List, [], _∷_, map, ℕ, zero, suc, _+_, _≤_, _<_, arith}
 use Rattle.model.proofs.Basics.{eqb, ltb, ℤ, pos, _+ℤ_, ltb-true}
-use Rattle.model.specs.{Sheet.Sheet, allBelow, sumBelow, listsBelow, allIn, keepIf, firstLeast, least, member, full, size, maskOf}
+use Rattle.model.specs.{Sheet.Sheet, allBelow, sumBelow, listsBelow, allIn, keepIf, isEmpty, firstLeast, least, member, full, size, maskOf}
 use Rattle.model.specs.{isOrder, keepsPair, keepsEveryPair, pairWithin, keepsPairsWithin, isAdmissible, isOrderWithin, loadBelow}
 use Rattle.model.specs.{load, ruleCharge, charges, stepCost, cost, inSheet, isSolution, roundCost, planCost, plans, solutions}
-use Rattle.model.specs.{cheapest, isCompletion, completions, costToGo, InRange}
+use Rattle.model.specs.{cheapest, isCompletion, completions, costToGo, admissibleOrders, noOrder, essential, pairsAllow, InRange}
 use Rattle.model.proofs.Tools.{Lists.All, Lists.all-kept, Lists.all-imply, Lists.map-cong, Lists.all-in, Tests.and-left}
 use Rattle.model.proofs.Tools.{Tests.and-right, Tests.all-cong, Tests.by-test, Folds.sum-cong, Folds.keep-cong, Choices.first-cong}
 use Rattle.model.proofs.Theory.Solutions.{SolutionTests, solution}
@@ -81,6 +81,16 @@ module _ {S R : Sheet} (same : Agree S R) where
   pub admissible-agrees : (ts : List ℕ) → isAdmissible S ts ≡ isAdmissible R ts
   unfolding isAdmissible keepsEveryPair
   admissible-agrees ts = ap₂ _&&_ (ap (λ (n : ℕ). isOrder n (full n) ts) (same .tasks)) (every-pair _ _ (keeps-agrees ts))
+
+  -- whether no order of the tasks keeps every pair
+  pub no-order-agrees : noOrder S ≡ noOrder R
+  unfolding noOrder admissibleOrders
+  no-order-agrees = ap isEmpty (kept-cong _ _ _ _ admissible-agrees (ap (λ (n : ℕ). listsBelow n n) (same .tasks)))
+
+  -- whether the pairs allow a list
+  pub pairs-allow-agree : (K : ℕ) → pairsAllow S K ≡ pairsAllow R K
+  unfolding pairsAllow essential
+  pairs-allow-agree K = ap (λ t. eqb K 0 || not (eqb K 0) && t) (every-pair _ _ (λ i l. rw (same .sender i l, same .receiver i l)))
 
   -- an order of K that keeps the pairs within K
   pub within-agrees : (K : ℕ) (ts : List ℕ) → isOrderWithin S K ts ≡ isOrderWithin R K ts

@@ -1,7 +1,7 @@
 -- The cheapest plan is a solution, no solution costs less, and of those that cost the same it ranks first, as the first of least cost in a list in rank
 -- order does. Assumes nothing.
 use Rattle.model.proofs.Basics.{_≡_, refl, sym, ap, _∙_, subst, _⊎_, inl, inr, true, List, [], _∷_, List·Memᴰ, List·Memᴰ·not-nil}
-use Rattle.model.proofs.Basics.{List·Memᴰ·head, List·Memᴰ·tail, Option, none, some, ℕ, _≤_, le-refl, arith, ltb, ltb-true, ltb-false}
+use Rattle.model.proofs.Basics.{List·Memᴰ·head, List·Memᴰ·tail, Option, none, some, Option·none-ne-some, ℕ, _≤_, le-refl, arith, ltb, ltb-true, ltb-false}
 use Rattle.model.specs.{Sheet.Sheet, cheaper, firstLeast, cost, Plan, isSolution, roundCost, planCost, solutions, cheapest}
 use Rattle.model.specs.{isCompletion, completions, costToGo}
 use Rattle.model.proofs.Tools.Choices.{first-some, costOf, least-is}
@@ -72,6 +72,10 @@ module _ (S : Sheet) (x : Plan) (chosen : cheapest S ≡ some x) where
 pub cheapest-some : (S : Sheet) (s : ℕ) (ds : List ℕ) → isSolution S s ds ≡ true → (x : Plan) × (cheapest S ≡ some x)
 unfolding cheapest
 cheapest-some S s ds h = first-some (planCost S) (solutions S) (member-not-nil (solutions S) _ (solution-listed S s ds h))
+
+-- and none only where there is no solution
+pub cheapest-none : (S : Sheet) → cheapest S ≡ none → (s : ℕ) (ds : List ℕ) → isSolution S s ds ≡ true → ⊥
+cheapest-none S e s ds h = let c = cheapest-some S s ds h in Option·none-ne-some (c .0) (sym e ∙ c .1)
 
 -- ---- the cost to go
 
