@@ -1,7 +1,8 @@
 -- The cheapest plan is a solution, no solution costs less, and of those that cost the same it ranks first, as the first of least cost in a list in rank
 -- order does. Assumes nothing.
 use Rattle.model.proofs.Basics.{_≡_, refl, sym, ap, _∙_, subst, _⊎_, inl, inr, true, List, [], _∷_, List·Memᴰ, List·Memᴰ·not-nil}
-use Rattle.model.proofs.Basics.{List·Memᴰ·head, List·Memᴰ·tail, Option, none, some, Option·none-ne-some, ℕ, _≤_, le-refl, arith, ltb, ltb-true, ltb-false}
+use Rattle.model.proofs.Basics.{List·Memᴰ·head, List·Memᴰ·tail, Option, none, some, Option·none-ne-some, ℕ, _≤_, le-refl, arith}
+use Rattle.model.proofs.Basics.{ltb, ltb-true, ltb-false}
 use Rattle.model.specs.{Sheet.Sheet, cheaper, firstLeast, cost, Plan, isSolution, roundCost, planCost, solutions, cheapest}
 use Rattle.model.specs.{isCompletion, completions, costToGo}
 use Rattle.model.proofs.Tools.Choices.{first-some, costOf, least-is}
