@@ -1,28 +1,42 @@
-//! Safe bindings over the C interface of vanplan.
+//! vanplan plans delivery rounds for vans, and validates plans made by others. This package is the safe interface to the
+//! proved code, which it links as a static library.
 //!
-//! vanplan plans delivery rounds and validates plans made by others. Each call of the C interface has one safe function
-//! here, of the same name, and one with `_into` behind the name that is lent what the C call is lent. What can be refused,
-//! and with which number, is in [`Refusal`].
+//! A round is a task sheet, as bytes: its tasks, doors, starts, pairs, access rules, points and distances. Its cheapest
+//! plan is a [`Plan`], whose bytes any unit can take and anyone can validate:
 //!
 //! ```
-//! use vanplan::{read, Refusal};
-//!
-//! // A task sheet has at least 46 bytes before its first body.
-//! assert_eq!(read(&[1, 0, 10, 0]), Err(Refusal::TOO_SHORT));
+//! let sheet = std::fs::read("../examples/a.sheet")?;
+//! let plan = vanplan::plan(&sheet)?;
+//! assert_eq!(plan, vanplan::Plan { start: 0, doors: vec![0, 1], cost: 92 });
+//! assert_eq!(plan.validate(&sheet)?, 92);
+//! # Ok::<(), Box<dyn std::error::Error>>(())
 //! ```
+//!
+//! - [`plan`] and [`Planner`], which keeps its memory from round to round, find the cheapest plan.
+//! - [`read`] tells a sheet's numbers of tasks and points, or why it is none.
+//! - [`validate`], or [`Plan::validate`], says whether a plan does every task once, keeps every pair, and costs what it
+//!   states.
+//! - [`Plan::to_bytes`] and [`Plan::from_bytes`] write and read a plan.
+//! - [`raw`] has the five calls of the C interface, over memory that the caller lends.
+//!
+//! Every call answers any bytes, keeps nothing from one call to the next and may be made from several threads at once;
+//! what it refuses, it refuses with a [`Refusal`]. The layout of a sheet and of a plan is in `include/vanplan.h`.
 
 #![deny(missing_docs)]
 #![deny(unsafe_op_in_unsafe_fn)]
 
 mod ffi;
+mod limits;
 mod plan;
-mod planning;
-mod read;
+mod planner;
+pub mod raw;
 mod refusal;
+mod sheet;
 mod validate;
 
-pub use plan::{read_plan, read_plan_into, write_plan, write_plan_into, Stated};
-pub use planning::{plan, plan_into, Planned};
-pub use read::{read, read_into, Counts};
-pub use refusal::{Refusal, ACCEPTED};
-pub use validate::{validate, validate_into};
+pub use limits::{MAX_CELLS, MAX_PLAN_BYTES, MAX_PLAN_DOORS, MAX_SHEET_BYTES, VERSION};
+pub use plan::Plan;
+pub use planner::{plan, Planner};
+pub use refusal::Refusal;
+pub use sheet::{read, Counts};
+pub use validate::validate;

@@ -1,88 +1,166 @@
-//! The numbers a call can answer with, and the words of document 01, the scope of the product, for them.
+//! Why a call refused: the numbers that it can answer with, and the words of document 01, the scope of the product.
 
+use crate::raw::ACCEPTED;
 use std::error::Error;
 use std::fmt;
 
-/// What a C call returns when it does not refuse.
-pub const ACCEPTED: u32 = 0;
-
-/// A refusal: its number alone, as the call returned it.
+/// Why a call refused. It wrote nothing then.
 ///
-/// Where several numbers apply, the first in the order in which they are tested is returned; `include/vanplan.h` has
-/// that order for each call. So a sheet refused with 14 has none of the faults that are tested before 14, and may have
-/// those that are tested after it.
-#[derive(Clone, Copy, Debug, PartialEq, Eq, PartialOrd, Ord, Hash)]
-pub struct Refusal(pub u32);
-
-impl Refusal {
+/// Where several refusals apply, the first in the order in which they are tested is answered; `include/vanplan.h` has
+/// that order for each call. So a sheet that is refused with 14 has none of the faults that are tested before 14, and may
+/// have those that are tested after it. README.md says what a person can do about each.
+///
+/// ```
+/// use vanplan::{plan, Refusal};
+///
+/// let sheet = std::fs::read("../examples/a-cycle.sheet")?;
+/// let advice = match plan(&sheet) {
+///     Ok(plan) => plan.to_string(),
+///     Err(Refusal::NoOrder) => "two pairs contradict each other".to_string(),
+///     Err(refusal) => refusal.to_string(),
+/// };
+/// assert_eq!(advice, "two pairs contradict each other");
+/// # Ok::<(), std::io::Error>(())
+/// ```
+#[derive(Clone, Copy, Debug, PartialEq, Eq, Hash)]
+#[non_exhaustive]
+pub enum Refusal {
     /// 10: sheet shorter than 46 bytes.
-    pub const TOO_SHORT: Refusal = Refusal(10);
+    TooShort,
     /// 11: kind not 1.
-    pub const WRONG_KIND: Refusal = Refusal(11);
+    WrongKind,
     /// 12: a number of entries outside the table of bodies; for writing and reading a plan, N outside 1 to 12, or fewer
     /// doors than N.
-    pub const WRONG_ENTRIES: Refusal = Refusal(12);
+    WrongEntries,
     /// 13: a body number or offset wrong, or the sheet's length not the end of body 7.
-    pub const WRONG_PLACES: Refusal = Refusal(13);
+    WrongPlaces,
     /// 14: a task, point, door or least count out of range, or a watched bit at N or above.
-    pub const OUT_OF_RANGE: Refusal = Refusal(14);
+    OutOfRange,
     /// 15: some task has no door.
-    pub const NO_DOOR: Refusal = Refusal(15);
+    NoDoor,
     /// 16: E plus all negative w is below zero.
-    pub const TOO_LIGHT: Refusal = Refusal(16);
+    TooLight,
     /// 17: no order of the tasks keeps every pair.
-    pub const NO_ORDER: Refusal = Refusal(17);
+    NoOrder,
     /// 20: fewer work cells than needed, which are 2^N times P.
-    pub const FEW_CELLS: Refusal = Refusal(20);
+    FewCells,
     /// 21: plan buffer shorter than 32 + 2N.
-    pub const SHORT_BUFFER: Refusal = Refusal(21);
+    ShortBuffer,
     /// 30: the plan's length or any byte before 22 not as laid out for this N.
-    pub const ILL_FORMED: Refusal = Refusal(30);
+    IllFormed,
     /// 31: a start or door number not in the sheet.
-    pub const NOT_IN_SHEET: Refusal = Refusal(31);
+    NotInSheet,
     /// 32: a task done twice.
-    pub const DONE_TWICE: Refusal = Refusal(32);
+    DoneTwice,
     /// 33: a receiver before its sender.
-    pub const RECEIVER_FIRST: Refusal = Refusal(33);
+    ReceiverFirst,
     /// 34: the cost stated is not the cost.
-    pub const WRONG_COST: Refusal = Refusal(34);
+    WrongCost,
+}
 
-    /// Document 01's words for the number; nothing for a number that no call of this package answers with.
-    pub fn meaning(self) -> Option<&'static str> {
-        Some(match self {
-            Refusal::TOO_SHORT => "sheet shorter than 46 bytes",
-            Refusal::WRONG_KIND => "kind not 1",
-            Refusal::WRONG_ENTRIES => "a number of entries outside the table",
-            Refusal::WRONG_PLACES => {
-                "a body number or offset wrong, or the sheet's length not the end of body 7"
-            }
-            Refusal::OUT_OF_RANGE => {
-                "a task, point, door or least count out of range, or a watched bit at N or above"
-            }
-            Refusal::NO_DOOR => "some task has no door",
-            Refusal::TOO_LIGHT => "E plus all negative w is below zero",
-            Refusal::NO_ORDER => "no order of the tasks keeps every pair",
-            Refusal::FEW_CELLS => "fewer work cells than needed",
-            Refusal::SHORT_BUFFER => "plan buffer shorter than 32 + 2N",
-            Refusal::ILL_FORMED => {
-                "the plan's length or any byte before 22 not as laid out for this N"
-            }
-            Refusal::NOT_IN_SHEET => "a start or door number not in the sheet",
-            Refusal::DONE_TWICE => "a task done twice",
-            Refusal::RECEIVER_FIRST => "a receiver before its sender",
-            Refusal::WRONG_COST => "the cost stated is not the cost",
-            _ => return None,
-        })
+impl Refusal {
+    const ALL: [Refusal; 15] = [
+        Refusal::TooShort,
+        Refusal::WrongKind,
+        Refusal::WrongEntries,
+        Refusal::WrongPlaces,
+        Refusal::OutOfRange,
+        Refusal::NoDoor,
+        Refusal::TooLight,
+        Refusal::NoOrder,
+        Refusal::FewCells,
+        Refusal::ShortBuffer,
+        Refusal::IllFormed,
+        Refusal::NotInSheet,
+        Refusal::DoneTwice,
+        Refusal::ReceiverFirst,
+        Refusal::WrongCost,
+    ];
+
+    /// Its row of document 01's table: the number and the words.
+    const fn row(self) -> (u32, &'static str) {
+        match self {
+            Refusal::TooShort => (10, "sheet shorter than 46 bytes"),
+            Refusal::WrongKind => (11, "kind not 1"),
+            Refusal::WrongEntries => (12, "a number of entries outside the table"),
+            Refusal::WrongPlaces => (
+                13,
+                "a body number or offset wrong, or the sheet's length not the end of body 7",
+            ),
+            Refusal::OutOfRange => (
+                14,
+                "a task, point, door or least count out of range, or a watched bit at N or above",
+            ),
+            Refusal::NoDoor => (15, "some task has no door"),
+            Refusal::TooLight => (16, "E plus all negative w is below zero"),
+            Refusal::NoOrder => (17, "no order of the tasks keeps every pair"),
+            Refusal::FewCells => (20, "fewer work cells than needed"),
+            Refusal::ShortBuffer => (21, "plan buffer shorter than 32 + 2N"),
+            Refusal::IllFormed => (
+                30,
+                "the plan's length or any byte before 22 not as laid out for this N",
+            ),
+            Refusal::NotInSheet => (31, "a start or door number not in the sheet"),
+            Refusal::DoneTwice => (32, "a task done twice"),
+            Refusal::ReceiverFirst => (33, "a receiver before its sender"),
+            Refusal::WrongCost => (34, "the cost stated is not the cost"),
+        }
+    }
+
+    /// The number that the C interface returns.
+    ///
+    /// ```
+    /// assert_eq!(vanplan::Refusal::NoOrder.number(), 17);
+    /// ```
+    pub const fn number(self) -> u32 {
+        self.row().0
+    }
+
+    /// Document 01's words for it.
+    ///
+    /// ```
+    /// let words = vanplan::Refusal::NoOrder.meaning();
+    /// assert_eq!(words, "no order of the tasks keeps every pair");
+    /// ```
+    pub const fn meaning(self) -> &'static str {
+        self.row().1
     }
 }
 
+/// What the number that a raw call returned says. No call of this version returns one that is not in the table, so such
+/// a number is that of another library, of which nothing is known.
+pub(crate) fn answered(number: u32) -> Result<(), Refusal> {
+    if number == ACCEPTED {
+        return Ok(());
+    }
+    let refusal = Refusal::ALL.into_iter().find(|r| r.number() == number);
+    Err(refusal.unwrap_or_else(|| panic!("the library that is linked answered {number}")))
+}
+
+/// `refused 17: no order of the tasks keeps every pair`.
 impl fmt::Display for Refusal {
     fn fmt(&self, f: &mut fmt::Formatter<'_>) -> fmt::Result {
-        match self.meaning() {
-            Some(meaning) => write!(f, "refused {}: {meaning}", self.0),
-            None => write!(f, "refused {}", self.0),
-        }
+        write!(f, "refused {}: {}", self.number(), self.meaning())
     }
 }
 
 impl Error for Refusal {}
+
+#[cfg(test)]
+mod tests {
+    use super::*;
+
+    #[test]
+    fn every_number_has_its_refusal() {
+        assert_eq!(answered(ACCEPTED), Ok(()));
+        let numbers = (10..=17).chain(20..=21).chain(30..=34);
+        let answers: Vec<Refusal> = numbers.filter_map(|n| answered(n).err()).collect();
+        assert_eq!(answers, Refusal::ALL);
+    }
+
+    #[test]
+    #[should_panic(expected = "answered 18")]
+    fn a_number_of_another_library() {
+        let _ = answered(18);
+    }
+}

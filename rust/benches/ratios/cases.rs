@@ -54,8 +54,8 @@ fn compare_valid(calls: &Calls, all: &mut Comparison, rng: &mut Rng, sheet: &She
         let room = Room::noise(rng, cells, len);
         all.planning(calls, &bytes, &room, case);
     }
-    let best = vanplan::plan(&bytes).expect("a sheet that reads").plan;
-    let best = Plan::in_places(tasks, &best).expect("a plan");
+    let best = vanplan::plan(&bytes).expect("a sheet that reads");
+    let best = Plan::of(best.start, &best.doors, best.cost);
     for plan in plans(rng, sheet, &best) {
         all.validating(calls, &bytes, &plan, case);
     }

@@ -14,7 +14,8 @@ pub struct Subject {
 impl Subject {
     fn new(name: &'static str, entries: Entries) -> Subject {
         let sheet = draw(entries);
-        let plan = vanplan::plan(&sheet).expect("a sheet that reads").plan;
+        let plan = vanplan::plan(&sheet).expect("a sheet that reads");
+        let plan = plan.to_bytes().expect("a plan of the planner");
         Subject { name, sheet, plan }
     }
 }

@@ -6,7 +6,7 @@ use super::reading::{faults, reading};
 use super::rng::Rng;
 use super::tally::Times;
 use std::fmt::{self, Arguments};
-use vanplan::{read, read_into, Counts, Refusal, ACCEPTED};
+use vanplan::{raw, read, Counts, Refusal};
 
 type Call = fn(&[u8], &mut u64, &mut u64) -> u32;
 
@@ -18,18 +18,20 @@ pub fn check(sheet: &[u8], case: Arguments) -> u32 {
     let (due_number, due_after, due_counts) = match reading(sheet) {
         Ok((tasks, points)) => {
             let after = [lent[0].holding(tasks), lent[1].holding(points)];
-            (ACCEPTED, after, Ok(Counts { tasks, points }))
+            let (tasks, points) = (tasks as usize, points as usize);
+            (raw::ACCEPTED, after, Ok(Counts { tasks, points }))
         }
-        Err(number) => (number, lent, Err(Refusal(number))),
+        Err(number) => (number, lent, Err(number)),
     };
-    for call in [interface::read as Call, read_into] {
+    for call in [interface::read as Call, raw::read] {
         let [mut tasks, mut points] = lent;
         let number = call(sheet, tasks.lend(), points.lend());
         let after = [tasks, points];
         let due = (due_number, due_after);
         assert_eq!((number, after), due, "{case}: {}", hex(sheet));
     }
-    assert_eq!(read(sheet), due_counts, "{case}: {}", hex(sheet));
+    let counts = read(sheet).map_err(Refusal::number);
+    assert_eq!(counts, due_counts, "{case}: {}", hex(sheet));
     due_number
 }
 

@@ -8,7 +8,7 @@ use crate::common::plan::{is_laid_out, plan_len, Plan, MOST_TASKS};
 use crate::common::rng::Rng;
 use crate::common::tested::{first_applying, READING_A_PLAN, WRITING_A_PLAN};
 use std::fmt::Arguments;
-use vanplan::{read_plan, read_plan_into, write_plan, write_plan_into, Refusal, Stated, ACCEPTED};
+use vanplan::{raw, Refusal};
 
 /// What stands around the lent lists.
 const AROUND: (u8, u16) = (0xa5, 0x5aa5);
@@ -62,24 +62,18 @@ pub fn check_write_at(shift: usize, n: usize, plan: &Plan, buf: &[u8], case: Arg
     let mut rng = Rng::of(buf);
     let lent = Place::filled(|| rng.next() as usize);
     let (due, due_written, due_buf) = match writing(n, plan, buf) {
-        Ok(after) => (ACCEPTED, lent.holding(plan_len(n)), after),
+        Ok(after) => (raw::ACCEPTED, lent.holding(plan_len(n)), after),
         Err(number) => (number, lent, buf.to_vec()),
     };
     let (start, doors, cost) = (plan.start, &plan.doors, plan.cost);
-    for call in [interface::write_plan as Write, write_plan_into] {
+    for call in [interface::write_plan as Write, raw::write_plan] {
         let mut buf = Lent::shifted(shift, buf, AROUND.0);
         let mut written = lent;
         let number = call(n, start, doors, cost, buf.lend(), written.lend());
         assert_eq!((number, written), (due, due_written), "{case}");
         assert_eq!(buf.returned(case), due_buf, "{case}");
     }
-    let mut again = buf.to_vec();
-    let answer = write_plan(n, start, doors, cost, &mut again);
-    let due_answer = match due {
-        ACCEPTED => Ok(plan_len(n)),
-        number => Err(Refusal(number)),
-    };
-    assert_eq!((answer, again), (due_answer, due_buf), "{case}");
+    check_owned(plan, case);
     due
 }
 
@@ -93,25 +87,53 @@ pub fn check_read(n: usize, bytes: &[u8], doors: &[u16], case: Arguments) -> u32
         doors.to_vec(),
         Place::filled(|| rng.next()),
     );
-    let (due, due_after, due_answer) = match reading(n, bytes, doors.len()) {
+    let (due, due_after) = match reading(n, bytes, doors.len()) {
         Ok(Plan { start, doors, cost }) => {
             let after = (lent.0.holding(start), doors, lent.2.holding(cost));
-            (ACCEPTED, after, Ok(Stated { start, cost }))
+            (raw::ACCEPTED, after)
         }
-        Err(number) => (number, lent.clone(), Err(Refusal(number))),
+        Err(number) => (number, lent.clone()),
     };
-    for call in [interface::read_plan as Read, read_plan_into] {
+    for call in [interface::read_plan as Read, raw::read_plan] {
         let (mut start, _, mut cost) = lent;
         let mut doors = Lent::new(doors, AROUND.1);
         let number = call(n, bytes, start.lend(), doors.lend(), cost.lend());
         let after = (start, doors.returned(case), cost);
         assert_eq!((number, &after), (due, &due_after), "{case}");
     }
-
-    let mut again = doors.to_vec();
-    let answer = read_plan(n, bytes, &mut again);
-    assert_eq!((answer, again), (due_answer, due_after.1), "{case}");
+    check_owned_read(bytes, case);
     due
+}
+
+/// The package's plan with all of these doors is written as the layout has it, and read from that again.
+fn check_owned(plan: &Plan, case: Arguments) {
+    let bytes = owned(plan).to_bytes().map_err(Refusal::number);
+    let due = match plan.doors.len() {
+        1..=MOST_TASKS => Ok(plan.encode()),
+        _ => Err(12),
+    };
+    assert_eq!(bytes, due, "{case}");
+    if let Ok(bytes) = bytes {
+        check_owned_read(&bytes, case);
+    }
+}
+
+/// The package reads the bytes as the plan of any number of tasks that they are laid out for.
+fn check_owned_read(bytes: &[u8], case: Arguments) {
+    let tasks = (1..=MOST_TASKS).find(|&n| is_laid_out(n, bytes));
+    let plan = tasks.and_then(|n| Plan::in_places(n, bytes));
+    let due = plan.as_ref().map(owned).ok_or(30);
+    let answer = vanplan::Plan::from_bytes(bytes).map_err(Refusal::number);
+    assert_eq!(answer, due, "{case}");
+}
+
+/// The same plan in the package's own type.
+pub fn owned(plan: &Plan) -> vanplan::Plan {
+    vanplan::Plan {
+        start: plan.start,
+        doors: plan.doors.clone(),
+        cost: plan.cost,
+    }
 }
 
 /// Like `check_write`, and the number is told beforehand; 0 stands for a plan that is written.

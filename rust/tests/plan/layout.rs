@@ -1,10 +1,9 @@
 //! The layout of a plan: the plan of sheet A byte by byte, every number of tasks, and values of the whole width.
 
-use super::calls::{expect_read, expect_write};
+use super::calls::{expect_read, expect_write, owned};
 use crate::common::examples::PLAN_OF_A;
 use crate::common::plan::{plan_len, random_doors, Plan, MOST_TASKS};
 use crate::common::rng::Rng;
-use vanplan::write_plan;
 
 #[test]
 fn the_plan_of_a() {
@@ -26,9 +25,10 @@ fn the_heads_of_1_and_12_tasks() {
         (1, 34, [2, 0, 1, 22, 1, 2, 24, 1, 3, 26, 1]),
         (12, 56, [2, 0, 1, 22, 1, 2, 24, 12, 3, 48, 1]),
     ] {
-        let mut buf = [0xff; 56];
-        assert_eq!(write_plan(n, 7, &[7; 12], 7, &mut buf), Ok(len));
-        assert_eq!(buf[..22], head.map(u16::to_le_bytes).concat());
+        let bytes = owned(&Plan::of(7, &[7; 12][..n], 7)).to_bytes();
+        let bytes = bytes.expect("1 to 12 tasks");
+        assert_eq!(bytes.len(), len);
+        assert_eq!(bytes[..22], head.map(u16::to_le_bytes).concat());
     }
 }
 

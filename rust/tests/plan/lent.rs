@@ -5,7 +5,7 @@ use super::calls::{check_write_at, expect_read, expect_write};
 use crate::common::interface;
 use crate::common::plan::{plan_len, random_doors, Plan, MOST_TASKS};
 use crate::common::rng::Rng;
-use vanplan::{read_plan, write_plan};
+use vanplan::raw;
 
 /// The same plan with other doors behind its own, in other noise: the same bytes, and the rest of the noise stays. Read
 /// with more doors lent, those behind its own become 0.
@@ -57,14 +57,21 @@ fn doors_at_any_even_address() {
             let plan = Plan::random(&mut rng, n);
             let before = random_doors(&mut rng, shift);
             let mut doors = [before.clone(), plan.doors.clone()].concat();
+            let case = format_args!("{shift} doors further on");
             let mut buf = rng.bytes(plan_len(n));
-            let written = write_plan(n, plan.start, &doors[shift..], plan.cost, &mut buf);
-            assert_eq!(written, Ok(plan_len(n)), "{shift} doors further on");
-            assert_eq!(buf, plan.encode(), "{shift} doors further on");
+            let (start, mut cost, mut written) = (plan.start, plan.cost, 0);
+            let number = raw::write_plan(n, start, &doors[shift..], cost, &mut buf, &mut written);
+            assert_eq!((number, written), (0, plan_len(n)), "{case}");
+            assert_eq!(buf, plan.encode(), "{case}");
             let other = Plan::random(&mut rng, n);
-            let answer = read_plan(n, &other.encode(), &mut doors[shift..]);
-            assert!(answer.is_ok(), "{shift} doors further on: {answer:?}");
-            assert_eq!(doors, [before, other.doors].concat());
+            let (bytes, mut start) = (other.encode(), 0);
+            let number = raw::read_plan(n, &bytes, &mut start, &mut doors[shift..], &mut cost);
+            assert_eq!(
+                (number, start, cost),
+                (0, other.start, other.cost),
+                "{case}"
+            );
+            assert_eq!(doors, [before, other.doors].concat(), "{case}");
         }
     }
 }

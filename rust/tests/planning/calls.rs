@@ -4,12 +4,13 @@
 use crate::common::check::hex;
 use crate::common::interface;
 use crate::common::lent::Lent;
-use crate::common::plan::plan_len;
+use crate::common::plan::{plan_len, Plan};
 use crate::common::rng::Rng;
 use crate::common::rounds::Due;
 use crate::common::tested::{first_applying, PLANNING};
+use std::cell::RefCell;
 use std::fmt::Arguments;
-use vanplan::{plan, plan_into, validate, Planned, Refusal, ACCEPTED};
+use vanplan::{raw, Planner, Refusal};
 
 /// What stands around the lent lists.
 const AROUND: (u64, u8) = (0x0123_4567_89ab_cdef, 0xa5);
@@ -59,7 +60,7 @@ impl Room {
         }
         after.plan[..plan].copy_from_slice(&due.plan.encode());
         after.cost = due.plan.cost;
-        (ACCEPTED, after)
+        (raw::ACCEPTED, after)
     }
 }
 
@@ -76,7 +77,7 @@ pub fn check(sheet: &[u8], due: Result<&Due, u32>, room: &Room, case: Arguments)
     let case = format_args!("{case}, lent {lengths:?}: {}", hex(sheet));
     let before = sheet.to_vec();
     let (due_number, due_after) = room.after(due);
-    for call in [interface::plan as Call, plan_into] {
+    for call in [interface::plan as Call, raw::plan] {
         let mut cells = Lent::new(&room.cells, AROUND.0);
         let mut plan = Lent::new(&room.plan, AROUND.1);
         let mut cost = Lent::new(&[room.cost], AROUND.0);
@@ -101,17 +102,40 @@ pub fn expect(number: u32, sheet: &[u8], due: Result<&Due, u32>, room: &Room, ca
     assert_eq!(answer, number, "{case}: {}", hex(sheet));
 }
 
-/// The function that lends its own room, and the judge's view of what it planned.
+thread_local! {
+    /// Kept from round to round, so that what an earlier one left would show.
+    static KEPT: RefCell<Planner> = const { RefCell::new(Planner::new()) };
+}
+
+/// The planner of the package, which lends its own room, and the judge's view of what it planned.
 pub fn check_own_room(sheet: &[u8], due: Result<&Due, u32>, case: Arguments) {
-    let due_planned = due.map_err(Refusal).map(|due| Planned {
-        plan: due.plan.encode(),
-        cost: due.plan.cost,
-        cells: due.cells.iter().map(|cell| cell.unwrap_or(0)).collect(),
+    let case = format_args!("{case}: {}", hex(sheet));
+    let planned = KEPT.with_borrow_mut(|planner| {
+        let planned = planner.plan(sheet);
+        if let Ok(due) = due {
+            assert_eq!(figures(planner, due), due.cells, "{case}");
+        }
+        planned
     });
-    let planned = plan(sheet);
-    assert_eq!(planned, due_planned, "{case}: {}", hex(sheet));
-    if let Ok(planned) = planned {
-        let judged = validate(sheet, &planned.plan);
-        assert_eq!(judged, Ok(planned.cost), "{case}: {}", hex(sheet));
+    assert_eq!(vanplan::plan(sheet), planned, "{case}");
+    if let Ok(planned) = &planned {
+        assert_eq!(planned.validate(sheet), Ok(planned.cost), "{case}");
     }
+    let planned = planned.map(|plan| Plan::of(plan.start, &plan.doors, plan.cost));
+    let due_plan = due.map(|due| due.plan.clone());
+    assert_eq!(planned.map_err(Refusal::number), due_plan, "{case}");
+}
+
+/// What the planner tells of every list and point of the round that is due, in the order of the cells; of one more point
+/// and one more task it tells nothing.
+pub fn figures(planner: &Planner, due: &Due) -> Vec<Option<u64>> {
+    let lists = 1 << due.plan.doors.len();
+    let points = due.cells.len() / lists;
+    for list in [0, lists - 1] {
+        assert_eq!(planner.cost_to_finish(list as u32, points), None);
+    }
+    assert_eq!(planner.cost_to_finish(lists as u32, 0), None);
+    assert_eq!(planner.cost_to_finish(u32::MAX, points - 1), None);
+    let cell = |cell| planner.cost_to_finish((cell / points) as u32, cell % points);
+    (0..due.cells.len()).map(cell).collect()
 }

@@ -7,6 +7,7 @@ mod common;
 mod calls;
 mod damage;
 mod extremes;
+mod kept;
 mod large;
 mod lent;
 mod noise;

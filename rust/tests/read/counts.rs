@@ -56,7 +56,6 @@ fn every_number_of_tasks_and_points_is_returned() {
         .encode();
         let case = format_args!("{tasks} tasks, {points} points");
         expect(0, &sheet, case);
-        let (tasks, points) = (tasks as u64, points as u64);
         assert_eq!(read(&sheet), Ok(Counts { tasks, points }), "{case}");
     }
 }

@@ -10,16 +10,19 @@ use crate::common::rng::Rng;
 use crate::common::sheet::Sheet;
 use crate::common::tally::Times;
 use std::fmt::Arguments;
-use vanplan::{validate, validate_into, Refusal, ACCEPTED};
+use vanplan::{raw, validate, Refusal};
 
 type Call = fn(&[u8], &[u8], &mut u64) -> u32;
 
 /// Compares one validation by the product with the plain judge, and returns the number.
 pub fn check(sheet: &[u8], plan: &[u8], case: Arguments) -> u32 {
     let due = judging(sheet, plan);
-    let answer = validate(sheet, plan);
-    let due_answer = due.map_err(Refusal);
-    assert_eq!(answer, due_answer, "{case}: {}, {}", hex(sheet), hex(plan));
+    let answer = validate(sheet, plan).map_err(Refusal::number);
+    assert_eq!(answer, due, "{case}: {}, {}", hex(sheet), hex(plan));
+    if let Ok(owned) = vanplan::Plan::from_bytes(plan) {
+        let answer = owned.validate(sheet).map_err(Refusal::number);
+        assert_eq!(answer, due, "{case}: {}, {owned:?}", hex(sheet));
+    }
     compare(sheet, plan, due, case)
 }
 
@@ -34,10 +37,10 @@ fn compare(sheet: &[u8], plan: &[u8], due: Result<u64, u32>, case: Arguments) ->
     let mut rng = Rng::of(plan);
     let lent = Place::filled(|| rng.next());
     let due = match due {
-        Ok(cost) => (ACCEPTED, lent.holding(cost)),
+        Ok(cost) => (raw::ACCEPTED, lent.holding(cost)),
         Err(number) => (number, lent),
     };
-    for call in [interface::validate as Call, validate_into] {
+    for call in [interface::validate as Call, raw::validate] {
         let mut cost = lent;
         let number = call(sheet, plan, cost.lend());
         assert_eq!((number, cost), due, "{case}: {}, {}", hex(sheet), hex(plan));

@@ -10,6 +10,7 @@ mod damage;
 mod every_plan;
 mod extremes;
 mod lent;
+mod owned;
 mod plans;
 mod random;
 mod refused_sheets;
