@@ -1,6 +1,7 @@
-/* vanplan: route planning and plan validation for delivery vans, from proved code.
+/* vanplan: route planning and plan validation for delivery vans, from proved code. For C99 and C++.
  *
- * Link with libvanplan.a, which `rt staticlib vanplan` writes to target/staticlib/ (x86-64 Linux).
+ * Link with libvanplan.a, which `rt staticlib vanplan` writes to target/staticlib/ (x86-64 Linux). It needs no other
+ * library, allocates nothing, and calls nothing but itself.
  *
  * Every call returns 0, or the number of a refusal, and where it refuses it has written nothing through any pointer.
  * Any bytes and any numbers may be passed: no call reads or writes outside of what it is lent, and every call ends. A
@@ -28,6 +29,21 @@
 extern "C" {
 #endif
 
+#define VANPLAN_VERSION "0.2.0"
+
+/* The bytes of the longest task sheet. A caller that reads one byte more sees that its input is longer. */
+#define VANPLAN_MAX_SHEET_BYTES 9638
+/* The doors and the bytes of the longest plan. */
+#define VANPLAN_MAX_PLAN_DOORS 12
+#define VANPLAN_MAX_PLAN_BYTES 56
+/* The work cells that are enough for planning any sheet: 2 MiB. */
+#define VANPLAN_MAX_CELLS 262144
+
+/* The work cells that planning a sheet of so many tasks and points needs, 2^N times P, and the bytes of its plan. For
+ * the numbers that vanplan_read gives. */
+#define VANPLAN_CELLS(tasks, points) (((size_t)1 << (tasks)) * (size_t)(points))
+#define VANPLAN_PLAN_BYTES(tasks) (32 + 2 * (size_t)(tasks))
+
 /* The refusals, by number. N is the number of tasks and P that of points. */
 enum vanplan_refusal {
     /* of a task sheet; 12 also where a plan is to have no task or more than 12, or more tasks than doors */
@@ -52,9 +68,66 @@ enum vanplan_refusal {
     VANPLAN_WRONG_COST = 34      /* the stated cost is not the cost */
 };
 
-/* Reads a task sheet of len bytes, and refuses it with 10 to 17.
- * 0: *tasks is the number of its tasks N, 1 to 12, and *points the number of its points P, 1 to 64. */
+/* A task sheet is what has to be done in a round, and what it costs. It has seven bodies, one behind the other:
+ *
+ *     byte  holds                                                                      bytes each
+ *     0     1: the kind of a task sheet                                                2
+ *     2     the end load, in kilograms: van and goods when all tasks are done          2
+ *     4     for each body its number (1 to 7), the byte that it begins at, its entries 2
+ *     46    body 1, and behind it bodies 2 to 7, with nothing between or behind them
+ *
+ *     body            entries        each has (16 bits, or 32 where it says so)
+ *     1 tasks         N, 1 to 12     the load change, signed: above 0 for a delivery, below 0 for a pick-up
+ *     2 doors         1 to 64        its task, the point it is arrived at, the point it is left from, the work (32)
+ *     3 starts        1 to 16        its point
+ *     4 pairs         0 to 32        the sender task, which is to be done before the receiver task
+ *     5 access rules  0 to 32        a door, the watched tasks, the least count (1 to 12), the charge (32)
+ *     6 points        P, 1 to 64     what it costs to end there (32)
+ *     7 distances     P times P      in decametres, row by row: from the row's point to the column's
+ *
+ * All numbers are little-endian, and but for the load change unsigned. Tasks, doors, starts and points are numbered from
+ * 0, as they stand in the sheet. Watched tasks are a number in which bit j stands for task j. A door does its task.
+ *
+ * A round begins at a start, does every task once, each through one of its doors, and every sender before its receiver.
+ * Each leg costs its distance times the load, which is the end load and the load changes of all tasks that are
+ * still open, that of the leg's own task too. A door costs its work, and the charge of each access rule on it for which at
+ * least the least count of the watched tasks are still open; the last point costs its end cost. */
+
+/* Reads a task sheet, and tells how much there is to plan.
+ *
+ *     sheet, len  in   the bytes of the sheet
+ *     tasks       out  the number of its tasks N, 1 to 12
+ *     points      out  the number of its points P, 1 to 64
+ *
+ * Returns 0, or refuses the sheet with 10 to 17. */
 uint32_t vanplan_read(const uint8_t *sheet, size_t len, uint64_t *tasks, uint64_t *points);
+
+/* Plans a task sheet: finds its cheapest plan.
+ *
+ *     sheet, len     in      the bytes of the sheet
+ *     cells, ncells  in out  work cells, VANPLAN_CELLS(N, P) or more
+ *     buf, buf_len   in out  room for the plan, VANPLAN_PLAN_BYTES(N) bytes or more
+ *     cost           out     the cost of the plan
+ *
+ * Returns 0, or refuses the sheet with 10 to 17 and the room with 20 and 21.
+ * 0: the first 32 + 2 N bytes of buf are the cheapest plan. Of plans of equal cost it is the first by start number, then
+ * by first door, second door and so on. The bytes of buf from there on are as they were.
+ * A list of tasks is a number K below 2^N in which bit j stands for task j. For every list that has the receiver of
+ * each pair whose sender it has, the empty list too, and for every point p, cells[K * P + p] is the cost to finish:
+ * the least that the rest of a round costs where the van stands at p and the tasks of K are open. All other cells are
+ * as they were. Nothing of this depends on what cells and buf held before. */
+uint32_t vanplan_plan(const uint8_t *sheet, size_t len, uint64_t *cells, size_t ncells, uint8_t *buf, size_t buf_len,
+                      uint64_t *cost);
+
+/* Validates a plan, made by anyone, for a task sheet.
+ *
+ *     sheet, len      in   the bytes of the sheet
+ *     plan, plan_len  in   the bytes of the plan
+ *     cost            out  the cost of the plan, which is the one that it states
+ *
+ * Returns 0, or refuses the sheet with 10 to 17 and the plan with 30 to 34.
+ * 0: the plan does every task once, keeps every pair, and costs what it states. It may be dearer than need be. */
+uint32_t vanplan_validate(const uint8_t *sheet, size_t len, const uint8_t *plan, size_t plan_len, uint64_t *cost);
 
 /* A plan is a start, a door for each of n tasks in the order in which they are done, and a cost. It has 32 + 2 n bytes:
  *
@@ -69,34 +142,31 @@ uint32_t vanplan_read(const uint8_t *sheet, size_t len, uint64_t *tasks, uint64_
  *
  * All numbers are unsigned and little-endian. */
 
-/* Writes the plan of n tasks with this start, the first n of the ndoors doors and this cost, each of any value, to the
- * first 32 + 2 n of the len bytes of buf. Refused: 12 if n is not 1 to 12 or ndoors is below n, and 21.
- * 0: *written is 32 + 2 n. The bytes of buf from there on are as they were. */
+/* Writes a plan as bytes. Its start, doors and cost may have any value.
+ *
+ *     n              in      the number of its tasks, 1 to 12
+ *     start          in      its start
+ *     doors, ndoors  in      its doors are the first n of these
+ *     cost           in      its cost
+ *     buf, buf_len   in out  room for the plan, VANPLAN_PLAN_BYTES(n) bytes or more
+ *     written        out     32 + 2 n, the bytes that were written
+ *
+ * Returns 0, or 12 if n is not 1 to 12 or ndoors is below n, or 21 if there is too little room.
+ * 0: the first 32 + 2 n bytes of buf are the plan, and those from there on are as they were. */
 uint32_t vanplan_write_plan(size_t n, uint16_t start, const uint16_t *doors, size_t ndoors, uint64_t cost,
-                            uint8_t *buf, size_t len, size_t *written);
+                            uint8_t *buf, size_t buf_len, size_t *written);
 
-/* Reads len bytes as a plan of n tasks, whatever its start, doors and cost are. Refused: 12 if n is not 1 to 12 or
- * ndoors is below n, and 30.
- * 0: *start is its start, the first n of the ndoors doors are its doors and the others 0, and *cost is its cost. */
+/* Reads the bytes of a plan, whatever its start, doors and cost are.
+ *
+ *     n              in   the number of tasks that it has to have, 1 to 12
+ *     bytes, len     in   the bytes of the plan
+ *     start          out  its start
+ *     doors, ndoors  out  the first n are its doors and the others 0; VANPLAN_MAX_PLAN_DOORS are enough for any plan
+ *     cost           out  the cost that it states
+ *
+ * Returns 0, or 12 if n is not 1 to 12 or ndoors is below n, or 30 if the bytes are no plan of n tasks. */
 uint32_t vanplan_read_plan(size_t n, const uint8_t *bytes, size_t len, uint16_t *start, uint16_t *doors, size_t ndoors,
                            uint64_t *cost);
-
-/* Validates a plan of plan_len bytes for a task sheet of len bytes. Refused: the sheet as by vanplan_read, and the plan
- * with 30 to 34.
- * 0: the plan does every task once and keeps every pair, and *cost is its cost, which is the stated one. It may be
- * dearer than need be. */
-uint32_t vanplan_validate(const uint8_t *sheet, size_t len, const uint8_t *plan, size_t plan_len, uint64_t *cost);
-
-/* Plans a task sheet of len bytes, with ncells work cells and a buffer of plan_len bytes for the plan. Refused: the
- * sheet as by vanplan_read, and the room with 20 and 21.
- * 0: the first 32 + 2 N bytes of plan are the cheapest plan, and *cost is its cost. Of plans of equal cost it is the
- * first by start number, then by first door, second door and so on. The bytes of plan from there on are as they were.
- * A list of tasks is a number K below 2^N in which bit j stands for task j. For every list that has the receiver of
- * each pair whose sender it has, the empty list too, and for every point p, cells[K * P + p] is the cost to finish:
- * the least that the rest of a round costs where the van stands at p and the tasks of K are open. All other cells are
- * as they were. Nothing of this depends on what cells and plan held before. */
-uint32_t vanplan_plan(const uint8_t *sheet, size_t len, uint64_t *cells, size_t ncells, uint8_t *plan, size_t plan_len,
-                      uint64_t *cost);
 
 #ifdef __cplusplus
 }

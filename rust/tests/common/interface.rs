@@ -38,8 +38,8 @@ extern "C" {
         len: usize,
         cells: *mut u64,
         ncells: usize,
-        plan: *mut u8,
-        plan_len: usize,
+        buf: *mut u8,
+        buf_len: usize,
         cost: *mut u64,
     ) -> u32;
 }
@@ -81,8 +81,8 @@ pub fn validate(sheet: &[u8], plan: &[u8], cost: &mut u64) -> u32 {
     unsafe { vanplan_validate(sheet.as_ptr(), len, plan.as_ptr(), plan_len, cost) }
 }
 
-pub fn plan(sheet: &[u8], cells: &mut [u64], plan: &mut [u8], cost: &mut u64) -> u32 {
-    let (len, ncells, plan_len) = (sheet.len(), cells.len(), plan.len());
-    let (sheet, cells, plan) = (sheet.as_ptr(), cells.as_mut_ptr(), plan.as_mut_ptr());
-    unsafe { vanplan_plan(sheet, len, cells, ncells, plan, plan_len, cost) }
+pub fn plan(sheet: &[u8], cells: &mut [u64], buf: &mut [u8], cost: &mut u64) -> u32 {
+    let (len, ncells, buf_len) = (sheet.len(), cells.len(), buf.len());
+    let (sheet, cells, buf) = (sheet.as_ptr(), cells.as_mut_ptr(), buf.as_mut_ptr());
+    unsafe { vanplan_plan(sheet, len, cells, ncells, buf, buf_len, cost) }
 }
