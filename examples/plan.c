@@ -10,11 +10,10 @@
 
 #include "vanplan.h"
 
-/* The longest sheet has 9,638 bytes; one byte more shows that the input is longer. */
-static uint8_t sheet[9639];
-/* Room for the longest plan. */
-static uint8_t plan[56];
-static uint16_t doors[12];
+/* One byte more than the longest sheet has shows that the input is longer. */
+static uint8_t sheet[VANPLAN_MAX_SHEET_BYTES + 1];
+static uint8_t plan[VANPLAN_MAX_PLAN_BYTES];
+static uint16_t doors[VANPLAN_MAX_PLAN_DOORS];
 
 static int refuse(uint32_t number)
 {
@@ -44,9 +43,9 @@ int main(int argc, char **argv)
     if (refused)
         return refuse(refused);
     n = (size_t)tasks;
-    plan_len = 32 + 2 * n;
-    ncells = ((size_t)1 << n) * (size_t)points;
-    cells = malloc(ncells * sizeof *cells);
+    plan_len = VANPLAN_PLAN_BYTES(tasks);
+    ncells = VANPLAN_CELLS(tasks, points);
+    cells = (uint64_t *)malloc(ncells * sizeof *cells);
     if (!cells) {
         perror("cells");
         return 2;
@@ -54,7 +53,7 @@ int main(int argc, char **argv)
     refused = vanplan_plan(sheet, len, cells, ncells, plan, plan_len, &cost);
     free(cells);
     if (!refused)
-        refused = vanplan_read_plan(n, plan, plan_len, &start, doors, 12, &cost);
+        refused = vanplan_read_plan(n, plan, plan_len, &start, doors, VANPLAN_MAX_PLAN_DOORS, &cost);
     if (refused)
         return refuse(refused);
     file = fopen(argv[1], "wb");

@@ -8,8 +8,8 @@
 
 #include "vanplan.h"
 
-/* The longest sheet has 9,638 bytes; one byte more shows that the input is longer. */
-static uint8_t sheet[9639];
+/* One byte more than the longest sheet has shows that the input is longer. */
+static uint8_t sheet[VANPLAN_MAX_SHEET_BYTES + 1];
 
 int main(void)
 {

@@ -10,9 +10,9 @@
 
 #include "vanplan.h"
 
-/* The longest plan has 56 bytes; one byte more shows that the input is longer. */
-static uint8_t plan[57];
-static uint16_t doors[12];
+/* One byte more than the longest plan has shows that the input is longer. */
+static uint8_t plan[VANPLAN_MAX_PLAN_BYTES + 1];
+static uint16_t doors[VANPLAN_MAX_PLAN_DOORS];
 
 int main(int argc, char **argv)
 {
@@ -32,7 +32,7 @@ int main(int argc, char **argv)
         perror("standard input");
         return 2;
     }
-    refused = vanplan_read_plan(n, plan, len, &start, doors, 12, &cost);
+    refused = vanplan_read_plan(n, plan, len, &start, doors, VANPLAN_MAX_PLAN_DOORS, &cost);
     if (refused) {
         printf("refused %" PRIu32 "\n", refused);
         return 1;

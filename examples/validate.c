@@ -9,9 +9,9 @@
 
 #include "vanplan.h"
 
-/* The longest sheet has 9,638 bytes and the longest plan 56; one byte more shows that the file is longer. */
-static uint8_t sheet[9639];
-static uint8_t plan[57];
+/* One byte more than the longest of each has shows that the file is longer. */
+static uint8_t sheet[VANPLAN_MAX_SHEET_BYTES + 1];
+static uint8_t plan[VANPLAN_MAX_PLAN_BYTES + 1];
 
 /* The bytes of a file, as many as there is room for. */
 static size_t load(const char *name, uint8_t *room, size_t size)

@@ -12,7 +12,7 @@
 
 /* Room for more doors than a plan can have, and for the longest plan. */
 static uint16_t doors[64];
-static uint8_t plan[56];
+static uint8_t plan[VANPLAN_MAX_PLAN_BYTES];
 
 /* The decimal number in a word, at most so large. */
 static uint64_t number(const char *word, uint64_t most)

@@ -22,4 +22,5 @@ pub mod rounds;
 pub mod sheet;
 pub mod tally;
 pub mod tested;
+pub mod town;
 pub mod valid;
