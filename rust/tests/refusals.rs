@@ -1,44 +1,85 @@
 //! A refusal says its number and document 01's words for it, and its name is the same in Rust and in C. The header says
-//! in which order the numbers are tested.
+//! in which order the numbers are tested, and the README what to do about each.
 
 mod common;
 
 use common::tested::{JUDGING, PLANNING, READING, READING_A_PLAN, WRITING_A_PLAN};
 use vanplan::{read, Refusal};
 
-/// A row of the table of document 01: number, name, and words, up to where the document's text goes on.
-macro_rules! row {
-    ($number:literal, $name:ident, $words:literal) => {
-        ($number, Refusal::$name, stringify!($name), $words)
-    };
-}
+/// A row of the table of document 01: number, refusal, name in C, and words, up to where the document's text goes on.
+type Row = (u32, Refusal, &'static str, &'static str);
 
 /// The rows that the calls of this package can answer with.
-const TABLE: [(u32, Refusal, &str, &str); 15] = [
-    row!(10, TOO_SHORT, "sheet shorter than 46 bytes"),
-    row!(11, WRONG_KIND, "kind not 1"),
-    row!(12, WRONG_ENTRIES, "a number of entries outside the table"),
-    row!(13, WRONG_PLACES, "a body number or offset wrong"),
-    row!(
-        14,
-        OUT_OF_RANGE,
-        "a task, point, door or least count out of range"
-    ),
-    row!(15, NO_DOOR, "some task has no door"),
-    row!(16, TOO_LIGHT, "E plus all negative w is below zero"),
-    row!(17, NO_ORDER, "no order of the tasks keeps every pair"),
-    row!(20, FEW_CELLS, "fewer work cells than needed"),
-    row!(21, SHORT_BUFFER, "plan buffer shorter than 32 + 2N"),
-    row!(
-        30,
-        ILL_FORMED,
-        "the plan's length or any byte before 22 not as laid out"
-    ),
-    row!(31, NOT_IN_SHEET, "a start or door number not in the sheet"),
-    row!(32, DONE_TWICE, "a task done twice"),
-    row!(33, RECEIVER_FIRST, "a receiver before its sender"),
-    row!(34, WRONG_COST, "the cost stated is not the cost"),
-];
+const TABLE: [Row; 15] = {
+    use Refusal::*;
+    [
+        (10, TooShort, "TOO_SHORT", "sheet shorter than 46 bytes"),
+        (11, WrongKind, "WRONG_KIND", "kind not 1"),
+        (
+            12,
+            WrongEntries,
+            "WRONG_ENTRIES",
+            "a number of entries outside the table",
+        ),
+        (
+            13,
+            WrongPlaces,
+            "WRONG_PLACES",
+            "a body number or offset wrong",
+        ),
+        (
+            14,
+            OutOfRange,
+            "OUT_OF_RANGE",
+            "a task, point, door or least count out of range",
+        ),
+        (15, NoDoor, "NO_DOOR", "some task has no door"),
+        (
+            16,
+            TooLight,
+            "TOO_LIGHT",
+            "E plus all negative w is below zero",
+        ),
+        (
+            17,
+            NoOrder,
+            "NO_ORDER",
+            "no order of the tasks keeps every pair",
+        ),
+        (20, FewCells, "FEW_CELLS", "fewer work cells than needed"),
+        (
+            21,
+            ShortBuffer,
+            "SHORT_BUFFER",
+            "plan buffer shorter than 32 + 2N",
+        ),
+        (
+            30,
+            IllFormed,
+            "ILL_FORMED",
+            "the plan's length or any byte before 22 not as laid out",
+        ),
+        (
+            31,
+            NotInSheet,
+            "NOT_IN_SHEET",
+            "a start or door number not in the sheet",
+        ),
+        (32, DoneTwice, "DONE_TWICE", "a task done twice"),
+        (
+            33,
+            ReceiverFirst,
+            "RECEIVER_FIRST",
+            "a receiver before its sender",
+        ),
+        (
+            34,
+            WrongCost,
+            "WRONG_COST",
+            "the cost stated is not the cost",
+        ),
+    ]
+};
 
 #[test]
 fn every_number_has_its_name_and_words() {
@@ -47,13 +88,11 @@ fn every_number_has_its_name_and_words() {
         (10..=17).chain(of_a_plan).eq(TABLE.iter().map(|row| row.0)),
         "a number is left out"
     );
-    for (number, named, _, words) in TABLE {
-        assert_eq!(named, Refusal(number));
-        let meaning = named
-            .meaning()
-            .unwrap_or_else(|| panic!("{number} means nothing"));
+    for (number, refusal, _, words) in TABLE {
+        assert_eq!(refusal.number(), number);
+        let meaning = refusal.meaning();
         assert!(meaning.starts_with(words), "{number} means: {meaning}");
-        assert_eq!(named.to_string(), format!("refused {number}: {meaning}"));
+        assert_eq!(refusal.to_string(), format!("refused {number}: {meaning}"));
     }
 }
 
@@ -72,6 +111,23 @@ fn the_header_has_the_same_names() {
     assert_eq!(named, due);
 }
 
+/// A row of its table begins with the number and the name in Rust, and says what it means and what to do.
+#[test]
+fn the_readme_has_them_all() {
+    let readme = include_str!("../../README.md");
+    let rows = readme.lines().filter_map(|line| {
+        let columns: Vec<&str> = line.strip_prefix("| ")?.split(" | ").collect();
+        let number: u32 = columns[0].parse().ok()?;
+        assert!(
+            columns.len() == 4 && columns.iter().all(|c| !c.is_empty()),
+            "{line}"
+        );
+        Some((number, columns[1].to_string()))
+    });
+    let due = TABLE.map(|row| (row.0, format!("`{:?}`", row.1)));
+    assert_eq!(rows.collect::<Vec<_>>(), due);
+}
+
 #[test]
 fn the_header_has_the_same_order() {
     let header = include_str!("../../include/vanplan.h");
@@ -86,14 +142,6 @@ fn the_header_has_the_same_order() {
         let due = format!(" *     {call:<20}{first}{}", numbers.join(", "));
         let has_it = header.lines().any(|line| line == due);
         assert!(has_it, "the header has no line {due:?}");
-    }
-}
-
-#[test]
-fn a_number_outside_the_table_has_no_words() {
-    for number in [0, 9, 18, 19, 22, 29, 35, u32::MAX] {
-        assert_eq!(Refusal(number).meaning(), None, "{number}");
-        assert_eq!(Refusal(number).to_string(), format!("refused {number}"));
     }
 }
 
