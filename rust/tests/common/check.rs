@@ -5,6 +5,7 @@ use super::lent::Place;
 use super::reading::{faults, reading};
 use super::rng::Rng;
 use super::tally::Times;
+use super::tested::ACCEPTED;
 use std::fmt::{self, Arguments};
 use vanplan::{raw, read, Counts, Refusal};
 
@@ -19,7 +20,7 @@ pub fn check(sheet: &[u8], case: Arguments) -> u32 {
         Ok((tasks, points)) => {
             let after = [lent[0].holding(tasks), lent[1].holding(points)];
             let (tasks, points) = (tasks as usize, points as usize);
-            (raw::ACCEPTED, after, Ok(Counts { tasks, points }))
+            (ACCEPTED, after, Ok(Counts { tasks, points }))
         }
         Err(number) => (number, lent, Err(number)),
     };

@@ -5,6 +5,7 @@
 #![allow(dead_code)]
 
 pub mod check;
+pub mod coding;
 pub mod corrupt;
 pub mod examples;
 pub mod faulty;
@@ -13,11 +14,14 @@ pub mod interface;
 pub mod judging;
 pub mod layout;
 pub mod lent;
+pub mod lively;
 pub mod orders;
 pub mod plan;
+pub mod plans;
 pub mod printing;
 pub mod reading;
 pub mod rng;
+pub mod room;
 pub mod rounds;
 pub mod sheet;
 pub mod tally;

@@ -2,6 +2,9 @@
 //! order is the answer. Whatever decides between several numbers takes the order from here, and nothing leans on the
 //! numbers rising. Examples worked by hand tell their number themselves, so that a wrong list shows.
 
+/// What a call returns that refuses nothing.
+pub const ACCEPTED: u32 = 0;
+
 /// Reading a task sheet.
 pub const READING: [u32; 8] = [10, 11, 12, 13, 14, 15, 16, 17];
 

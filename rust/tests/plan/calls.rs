@@ -2,11 +2,12 @@
 //! that was lent, as it is afterwards.
 
 use crate::common::check::hex;
+use crate::common::coding::{reading, writing};
 use crate::common::interface;
 use crate::common::lent::{Lent, Place};
 use crate::common::plan::{is_laid_out, plan_len, Plan, MOST_TASKS};
 use crate::common::rng::Rng;
-use crate::common::tested::{first_applying, READING_A_PLAN, WRITING_A_PLAN};
+use crate::common::tested::ACCEPTED;
 use std::fmt::Arguments;
 use vanplan::{raw, Refusal};
 
@@ -15,40 +16,6 @@ const AROUND: (u8, u16) = (0xa5, 0x5aa5);
 
 type Write = fn(usize, u16, &[u16], u64, &mut [u8], &mut usize) -> u32;
 type Read = fn(usize, &[u8], &mut u16, &mut [u16], &mut u64) -> u32;
-
-/// Both calls answer 12 for an N outside 1 to 12, and for fewer doors than N.
-fn tasks_or_doors_are_wrong(n: usize, doors: usize) -> bool {
-    !(1..=MOST_TASKS).contains(&n) || doors < n
-}
-
-/// The buffer after the plan with the first N of these doors was written, or the number that writing is refused with.
-fn writing(n: usize, plan: &Plan, buf: &[u8]) -> Result<Vec<u8>, u32> {
-    let applies = |number| match number {
-        12 => tasks_or_doors_are_wrong(n, plan.doors.len()),
-        21 => buf.len() < plan_len(n),
-        _ => panic!("writing a plan never answers {number}"),
-    };
-    if let Some(number) = first_applying(&WRITING_A_PLAN, applies) {
-        return Err(number);
-    }
-    let bytes = Plan::of(plan.start, &plan.doors[..n], plan.cost).encode();
-    Ok([&bytes, &buf[plan_len(n)..]].concat())
-}
-
-/// The plan that is read, with as many doors as are lent, or the number that reading is refused with.
-fn reading(n: usize, bytes: &[u8], doors: usize) -> Result<Plan, u32> {
-    let applies = |number| match number {
-        12 => tasks_or_doors_are_wrong(n, doors),
-        30 => !is_laid_out(n, bytes),
-        _ => panic!("reading a plan never answers {number}"),
-    };
-    if let Some(number) = first_applying(&READING_A_PLAN, applies) {
-        return Err(number);
-    }
-    let mut plan = Plan::in_places(n, bytes).expect("as long as laid out");
-    plan.doors.resize(doors, 0);
-    Ok(plan)
-}
 
 /// Writes a plan to a copy of the buffer, compares the answer and all that is lent, and returns the number.
 pub fn check_write(n: usize, plan: &Plan, buf: &[u8], case: Arguments) -> u32 {
@@ -62,7 +29,7 @@ pub fn check_write_at(shift: usize, n: usize, plan: &Plan, buf: &[u8], case: Arg
     let mut rng = Rng::of(buf);
     let lent = Place::filled(|| rng.next() as usize);
     let (due, due_written, due_buf) = match writing(n, plan, buf) {
-        Ok(after) => (raw::ACCEPTED, lent.holding(plan_len(n)), after),
+        Ok(after) => (ACCEPTED, lent.holding(plan_len(n)), after),
         Err(number) => (number, lent, buf.to_vec()),
     };
     let (start, doors, cost) = (plan.start, &plan.doors, plan.cost);
@@ -90,7 +57,7 @@ pub fn check_read(n: usize, bytes: &[u8], doors: &[u16], case: Arguments) -> u32
     let (due, due_after) = match reading(n, bytes, doors.len()) {
         Ok(Plan { start, doors, cost }) => {
             let after = (lent.0.holding(start), doors, lent.2.holding(cost));
-            (raw::ACCEPTED, after)
+            (ACCEPTED, after)
         }
         Err(number) => (number, lent.clone()),
     };

@@ -9,6 +9,7 @@ use crate::common::plan::Plan;
 use crate::common::rng::Rng;
 use crate::common::sheet::Sheet;
 use crate::common::tally::Times;
+use crate::common::tested::ACCEPTED;
 use std::fmt::Arguments;
 use vanplan::{raw, validate, Refusal};
 
@@ -37,7 +38,7 @@ fn compare(sheet: &[u8], plan: &[u8], due: Result<u64, u32>, case: Arguments) ->
     let mut rng = Rng::of(plan);
     let lent = Place::filled(|| rng.next());
     let due = match due {
-        Ok(cost) => (raw::ACCEPTED, lent.holding(cost)),
+        Ok(cost) => (ACCEPTED, lent.holding(cost)),
         Err(number) => (number, lent),
     };
     for call in [interface::validate as Call, raw::validate] {

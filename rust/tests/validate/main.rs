@@ -11,8 +11,9 @@ mod every_plan;
 mod extremes;
 mod lent;
 mod owned;
-mod plans;
 mod random;
 mod refused_sheets;
 mod sheet_a;
 mod values;
+
+use common::plans;

@@ -1,11 +1,11 @@
 //! Plans made for a sheet that reads: random solutions, and plans with exactly the faults that are asked for.
 
-use crate::common::judging::{cost, plan_faults};
-use crate::common::plan::{head, Plan, HEAD};
-use crate::common::rng::Rng;
-use crate::common::sheet::Sheet;
-use crate::common::tested::{in_order, JUDGING};
-use crate::common::valid::{valid, Size};
+use super::judging::{cost, plan_faults};
+use super::plan::{head, Plan, HEAD};
+use super::rng::Rng;
+use super::sheet::Sheet;
+use super::tested::{in_order, JUDGING};
+use super::valid::{valid, Size};
 
 /// A random solution that states its cost.
 pub fn solution(rng: &mut Rng, sheet: &Sheet) -> Plan {
@@ -93,7 +93,8 @@ pub fn with_plan_faults(rng: &mut Rng, numbers: &[u32]) -> (Sheet, Vec<u8>) {
     panic!("no plan with the faults {numbers:?} in {TRIES} tries");
 }
 
-fn put_into_steps(rng: &mut Rng, sheet: &Sheet, plan: &mut Plan, number: u32) {
+/// Puts one of the faults 31 to 33 into a solution of two steps or more; for 33 the sheet has a pair.
+pub fn put_into_steps(rng: &mut Rng, sheet: &Sheet, plan: &mut Plan, number: u32) {
     let steps = rng.order(plan.doors.len());
     let (one, other) = (usize::from(steps[0]), usize::from(steps[1]));
     match number {
