@@ -7,11 +7,15 @@ use super::sheet::{Rule, Sheet};
 
 /// Plans a sheet that reads.
 pub fn recurse(sheet: &Sheet) -> Due {
+    Finishing::of(sheet).due()
+}
+
+/// Plans a sheet that reads, and counts the solutions that cost as little as any.
+pub fn recurse_and_count(sheet: &Sheet) -> (Due, u64) {
     let mut finishing = Finishing::of(sheet);
-    let lists = 0..1 << sheet.tasks.len();
-    let cells = lists.flat_map(|list| finishing.row(list)).collect();
-    let plan = finishing.cheapest();
-    Due { plan, cells }
+    let due = finishing.due();
+    let solutions = finishing.solutions_at(due.plan.cost);
+    (due, solutions)
 }
 
 struct Finishing<'a> {
@@ -34,6 +38,13 @@ impl Finishing<'_> {
             rules: doors.map(|door| on(door).collect()).collect(),
             found: vec![None; sheet.points.len() << sheet.tasks.len()],
         }
+    }
+
+    fn due(&mut self) -> Due {
+        let lists = 0..1 << self.sheet.tasks.len();
+        let cells = lists.flat_map(|list| self.row(list)).collect();
+        let plan = self.cheapest();
+        Due { plan, cells }
     }
 
     /// The cells of a list: nothing where the pairs do not allow it.
@@ -116,5 +127,40 @@ impl Finishing<'_> {
             point = self.sheet.doors[door].departure.into();
         }
         Plan::of(start as u16, &doors, cost)
+    }
+
+    /// How many solutions cost this, the least.
+    fn solutions_at(&mut self, cost: u64) -> u64 {
+        let full_list = (1 << self.sheet.tasks.len()) - 1;
+        let mut counted = vec![None; self.found.len()];
+        let mut solutions = 0;
+        for &point in &self.sheet.starts {
+            if self.cost(full_list, point.into()) == cost {
+                solutions += self.ways(full_list, point.into(), &mut counted);
+            }
+        }
+        solutions
+    }
+
+    /// How many ways to finish from the point with the list open cost as little as any. Twelve tasks have fewer than
+    /// 2^29 orders and, with 64 doors, fewer than 2^29 choices of doors, so 64 bits hold the ways from 16 starts.
+    fn ways(&mut self, list: usize, point: usize, counted: &mut [Option<u64>]) -> u64 {
+        if list == 0 {
+            return 1;
+        }
+        let cell = list * self.sheet.points.len() + point;
+        if let Some(ways) = counted[cell] {
+            return ways;
+        }
+        let (cost, load) = (self.cost(list, point), self.load(list));
+        let mut ways = 0;
+        for number in 0..self.sheet.doors.len() {
+            if self.may_be_next(list, number) && self.cost_by(list, load, point, number) == cost {
+                let door = self.sheet.doors[number];
+                ways += self.ways(list & !(1 << door.task), door.departure.into(), counted);
+            }
+        }
+        counted[cell] = Some(ways);
+        ways
     }
 }

@@ -12,6 +12,7 @@ pub trait Number: Copy + PartialEq + Debug {}
 impl Number for u8 {}
 impl Number for u16 {}
 impl Number for u64 {}
+impl Number for usize {}
 
 /// A number that is lent, with one before it and one behind.
 #[derive(Clone, Copy, Debug, PartialEq)]
@@ -77,12 +78,19 @@ impl<T: Number> Lent<T> {
 }
 
 extern "C" {
-    fn mmap(at: *mut u8, size: usize, access: i32, kind: i32, file: i32, offset: i64) -> *mut u8;
-    fn munmap(at: *mut u8, size: usize) -> i32;
+    pub fn mmap(
+        at: *mut u8,
+        size: usize,
+        access: i32,
+        kind: i32,
+        file: i32,
+        offset: i64,
+    ) -> *mut u8;
+    pub fn munmap(at: *mut u8, size: usize) -> i32;
 }
 
 /// To be read and written.
-const READ_WRITE: i32 = 0x1 | 0x2;
+pub const READ_WRITE: i32 = 0x1 | 0x2;
 /// Private, of no file, and with no memory set aside before it is touched.
 const UNRESERVED: i32 = 0x2 | 0x20 | 0x4000;
 

@@ -1,5 +1,5 @@
 //! What the tests share: sheets and plans made in Rust, a reading, a judging and a planning of them written from
-//! document 01 alone, and the comparison of readings.
+//! document 01 alone, the comparison of readings, and the hardening of every call.
 
 // Every test program covers its own calls, and none of them uses all of this.
 #![allow(dead_code)]
@@ -10,6 +10,8 @@ pub mod corrupt;
 pub mod examples;
 pub mod faulty;
 pub mod finishing;
+pub mod fuzzing;
+pub mod guarded;
 pub mod interface;
 pub mod judging;
 pub mod layout;

@@ -1,0 +1,98 @@
+//! How often each call gave each of its numbers, and what of it was asked for.
+
+use super::calls::Call;
+use super::case::Case;
+use super::compare::Outcome;
+use crate::common::tested::ACCEPTED;
+use std::collections::BTreeMap;
+
+/// The calls that the shares below are of.
+const OF_CALLS: u64 = 10_000_000;
+const SHARE_OF_EACH_NUMBER: u64 = 10_000;
+const SHARE_PLANNED: u64 = 300_000;
+const SHARE_TIED: u64 = 20_000;
+const SHARE_LONG: u64 = 1_000;
+const SHARE_ACCEPTED: u64 = 300_000;
+
+/// The fewest tasks of a long round.
+const LONG: usize = 6;
+
+#[derive(Clone, Debug, Default)]
+pub struct Counts {
+    answers: BTreeMap<(Call, u32), u64>,
+    /// Planned, with several solutions that cost as little as any.
+    pub tied: u64,
+    /// Planned, with six tasks or more.
+    pub long: u64,
+    /// Calls after which something was not as is due.
+    pub differences: u64,
+}
+
+impl Counts {
+    pub fn add(&mut self, call: Call, case: &Case, outcome: &Outcome) {
+        let Ok(number) = *outcome else {
+            self.differences += 1;
+            return;
+        };
+        *self.answers.entry((call, number)).or_default() += 1;
+        if let (Call::Plan, ACCEPTED, Ok(solved)) = (call, number, &case.solved) {
+            self.tied += u64::from(solved.cheapest > 1);
+            self.long += u64::from(solved.sheet.tasks.len() >= LONG);
+        }
+    }
+
+    pub fn add_all(&mut self, others: &Counts) {
+        for (&answer, times) in &others.answers {
+            *self.answers.entry(answer).or_default() += times;
+        }
+        self.tied += others.tied;
+        self.long += others.long;
+        self.differences += others.differences;
+    }
+
+    pub fn of(&self, call: Call, number: u32) -> u64 {
+        self.answers.get(&(call, number)).copied().unwrap_or(0)
+    }
+
+    pub fn calls(&self) -> u64 {
+        self.answers.values().sum::<u64>() + self.differences
+    }
+
+    pub fn planned(&self) -> u64 {
+        self.of(Call::Plan, ACCEPTED)
+    }
+
+    pub fn accepted(&self) -> u64 {
+        self.of(Call::Validate, ACCEPTED)
+    }
+
+    /// What was met less often than its share of the calls, or not at all.
+    pub fn too_few(&self) -> Vec<String> {
+        let calls = self.calls();
+        let mut shares = self.shares();
+        shares.retain(|&(_, met, share)| met == 0 || met * OF_CALLS < share * calls);
+        let told = |(name, met, share)| {
+            format!("{name}: {met} in {calls} calls, fewer than {share} in {OF_CALLS}")
+        };
+        shares.into_iter().map(told).collect()
+    }
+
+    /// What was asked for: its name, how often it was met, and its share.
+    fn shares(&self) -> Vec<(String, u64, u64)> {
+        let of_numbers = Call::ALL.into_iter().flat_map(|call| {
+            let share = move |number| {
+                let name = format!("{} {number}", call.name());
+                (name, self.of(call, number), SHARE_OF_EACH_NUMBER)
+            };
+            call.numbers().into_iter().map(share)
+        });
+        let others = [
+            ("planned", self.planned(), SHARE_PLANNED),
+            ("planned with a tie", self.tied, SHARE_TIED),
+            ("planned with six tasks or more", self.long, SHARE_LONG),
+            ("accepted", self.accepted(), SHARE_ACCEPTED),
+        ];
+        let others = others.map(|(name, met, share)| (name.to_string(), met, share));
+        of_numbers.chain(others).collect()
+    }
+}
