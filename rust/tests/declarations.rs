@@ -160,17 +160,27 @@ fn with_slips<'a>(
     places.map(move |at| [&text[..at], slip, &text[at + word.len()..]].concat())
 }
 
-/// The part of a text that declares, from here on.
-fn split_at_first<'a>(text: &'a str, mark: &str) -> (&'a str, &'a str) {
-    text.split_at(text.find(mark).expect("declarations"))
+/// Each of these slips, in each place behind the mark where its word stands, is told from what is exported.
+fn assert_slips_show(text: &str, mark: &str, declared: fn(&str) -> Calls, slips: &[(&str, &str)]) {
+    let exports = exported(EXPORTS);
+    let (before, declarations) = text.split_at(text.find(mark).expect("declarations"));
+    let mut made = 0;
+    for (word, slip) in slips {
+        for wrong in with_slips(declarations, word, slip) {
+            let declared = declared(&format!("{before}{wrong}"));
+            assert!(
+                !agree(&declared, &exports),
+                "{word} as {slip}: {declared:#?}"
+            );
+            made += 1;
+        }
+    }
+    assert!(made > 20, "{made}");
 }
 
 #[test]
 fn a_slip_in_the_header_shows() {
-    let exports = exported(EXPORTS);
-    let (before, prototypes) = split_at_first(HEADER, "uint32_t vanplan_read");
-    let mut slips = 0;
-    for (word, slip) in [
+    let slips = [
         ("uint64_t *", "uint32_t *"),
         ("uint16_t *", "uint64_t *"),
         ("const uint8_t *", "uint8_t *"),
@@ -180,25 +190,13 @@ fn a_slip_in_the_header_shows() {
         ("uint32_t vanplan", "uint64_t vanplan"),
         ("*tasks, uint64_t *points", "*points, uint64_t *tasks"),
         ("size_t n, ", ""),
-    ] {
-        for text in with_slips(prototypes, word, slip) {
-            let declared = declared_in_c(&format!("{before}{text}"));
-            assert!(
-                !agree(&declared, &exports),
-                "{word} as {slip}: {declared:#?}"
-            );
-            slips += 1;
-        }
-    }
-    assert!(slips > 20, "{slips}");
+    ];
+    assert_slips_show(HEADER, "uint32_t vanplan_read", declared_in_c, &slips);
 }
 
 #[test]
 fn a_slip_in_the_package_shows() {
-    let exports = exported(EXPORTS);
-    let (before, block) = split_at_first(PACKAGE, "extern \"C\" {");
-    let mut slips = 0;
-    for (word, slip) in [
+    let slips = [
         ("*mut u64", "*mut u32"),
         ("*mut u16", "*mut u64"),
         ("*const u8", "*mut u8"),
@@ -207,17 +205,8 @@ fn a_slip_in_the_package_shows() {
         ("-> u32", "-> u64"),
         ("tasks: *mut u64, points", "points: *mut u64, tasks"),
         ("n: usize,", ""),
-    ] {
-        for text in with_slips(block, word, slip) {
-            let declared = declared_in_rust(&format!("{before}{text}"));
-            assert!(
-                !agree(&declared, &exports),
-                "{word} as {slip}: {declared:#?}"
-            );
-            slips += 1;
-        }
-    }
-    assert!(slips > 20, "{slips}");
+    ];
+    assert_slips_show(PACKAGE, "extern \"C\" {", declared_in_rust, &slips);
 }
 
 #[test]
