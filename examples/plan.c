@@ -1,9 +1,10 @@
 /* Plans a task sheet from standard input, writes the plan to a file, and prints its cost, its start and its doors, or
- * the number of the refusal.
+ * the number of the refusal. A file of that name that is there is gone then: no old plan stands for a new sheet.
  *
  *     cc -I include examples/plan.c target/staticlib/libvanplan.a -o target/plan
  *     target/plan target/new.plan < examples/a.sheet
  */
+#include <errno.h>
 #include <inttypes.h>
 #include <stdio.h>
 #include <stdlib.h>
@@ -31,6 +32,10 @@ int main(int argc, char **argv)
 
     if (argc != 2) {
         fprintf(stderr, "usage: %s PLAN < SHEET\n", argv[0]);
+        return 2;
+    }
+    if (remove(argv[1]) && errno != ENOENT) {
+        perror(argv[1]);
         return 2;
     }
     len = fread(sheet, 1, sizeof sheet, stdin);

@@ -70,28 +70,31 @@ enum vanplan_refusal {
 
 /* A task sheet is what has to be done in a round, and what it costs. It has seven bodies, one behind the other:
  *
- *     byte  holds                                                                      bytes each
- *     0     1: the kind of a task sheet                                                2
- *     2     the end load, in kilograms: van and goods when all tasks are done          2
- *     4     for each body its number (1 to 7), the byte that it begins at, its entries 2
+ *     byte  holds                                                                        bytes each
+ *     0     1: the kind of a task sheet                                                  2
+ *     2     the end load, in kilograms: van and goods when all tasks are done            2
+ *     4     for each body its number (1 to 7), the byte that it begins at, its entries   2
  *     46    body 1, and behind it bodies 2 to 7, with nothing between or behind them
  *
- *     body            entries        each has (16 bits, or 32 where it says so)
- *     1 tasks         N, 1 to 12     the load change, signed: above 0 for a delivery, below 0 for a pick-up
- *     2 doors         1 to 64        its task, the point it is arrived at, the point it is left from, the work (32)
- *     3 starts        1 to 16        its point
- *     4 pairs         0 to 32        the sender task, which is to be done before the receiver task
- *     5 access rules  0 to 32        a door, the watched tasks, the least count (1 to 12), the charge (32)
- *     6 points        P, 1 to 64     what it costs to end there (32)
- *     7 distances     P times P      in decametres, row by row: from the row's point to the column's
+ *     body            entries     bytes of one  its fields, of 2 bytes, or 4 where it says so
+ *     1 tasks         N, 1 to 12  2             the load change, signed: above 0 for a delivery, below 0 for a pick-up
+ *     2 doors         1 to 64     10            the task, the point to arrive at, the point to leave from, the work (4)
+ *     3 starts        1 to 16     2             the point
+ *     4 pairs         0 to 32     4             the sender task, the receiver task
+ *     5 access rules  0 to 32     10            the door, the watched tasks, the least count (1 to 12), the charge (4)
+ *     6 points        P, 1 to 64  4             what it costs to end there (4)
+ *     7 distances     P times P   2             the distance in decametres: row by row, from the row's point to the column's
  *
- * All numbers are little-endian, and but for the load change unsigned. Tasks, doors, starts and points are numbered from
- * 0, as they stand in the sheet. Watched tasks are a number in which bit j stands for task j. A door does its task.
+ * All numbers are little-endian and unsigned, but the load change, which is in two's complement. Tasks, doors, starts and
+ * points are numbered from 0, as they stand in the sheet. Watched tasks are a number in which bit j stands for task j.
+ * Work, charges, end costs and the cost of a round are in kilogram decametres; no sheet that reads has a cost of 2^40.
  *
- * A round begins at a start, does every task once, each through one of its doors, and every sender before its receiver.
- * Each leg costs its distance times the load, which is the end load and the load changes of all tasks that are
- * still open, that of the leg's own task too. A door costs its work, and the charge of each access rule on it for which at
- * least the least count of the watched tasks are still open; the last point costs its end cost. */
+ * A round begins at a start and does every task once, each through one of its doors, and the sender of each pair before
+ * its receiver. A task is open until its door is done: at its own leg and its own door it still is. The leg to a door
+ * goes from the point of the start, or the one that the door before was left from, to the point that the door is arrived at,
+ * also where they are the same, and costs its distance times the load: the end load and the load changes of all open
+ * tasks. A door costs its work, and the charge of each access rule on it of whose watched tasks at least the least count
+ * are open. The point that the last door is left from costs its end cost. */
 
 /* Reads a task sheet, and tells how much there is to plan.
  *
@@ -123,7 +126,7 @@ uint32_t vanplan_plan(const uint8_t *sheet, size_t len, uint64_t *cells, size_t 
  *
  *     sheet, len      in   the bytes of the sheet
  *     plan, plan_len  in   the bytes of the plan
- *     cost            out  the cost of the plan, which is the one that it states
+ *     cost            out  the cost of the plan, which is the one that it states; a wrong one is 34 and not corrected
  *
  * Returns 0, or refuses the sheet with 10 to 17 and the plan with 30 to 34.
  * 0: the plan does every task once, keeps every pair, and costs what it states. It may be dearer than need be. */

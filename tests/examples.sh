@@ -29,6 +29,10 @@ examples() {
     head -c 45 $sheet >"$scratch/cut.sheet"
     head -c 35 $plan >"$scratch/cut.plan"
     { head -c 28 $plan; printf '\133'; tail -c +30 $plan; } >"$scratch/cost91.plan"
+    if build_example make; then
+        example make "made 102" 0 "$scratch/made.sheet"
+        same "$scratch/made.sheet" $sheet
+    fi
     if build_example read; then
         example read "tasks 2 points 3" 0 <$sheet
         example read "refused 10" 1 <"$scratch/cut.sheet"
@@ -53,7 +57,8 @@ examples() {
     if build_example plan; then
         example plan "cost 92 start 0 doors 0 1" 0 "$scratch/best.plan" <$sheet
         same "$scratch/best.plan" $plan
-        example plan "refused 10" 1 "$scratch/none.plan" <"$scratch/cut.sheet"
+        example plan "refused 10" 1 "$scratch/best.plan" <"$scratch/cut.sheet"
+        gone "$scratch/best.plan"
     fi
 }
 
@@ -74,7 +79,8 @@ rust_examples() {
     local sheet=examples/a.sheet plan=examples/a.plan
     rust_example plan "cost 92 start 0 doors 0 1" 0 "$scratch/best_too.plan" <$sheet
     same "$scratch/best_too.plan" $plan
-    rust_example plan "refused 10: sheet shorter than 46 bytes" 1 "$scratch/none.plan" <"$scratch/cut.sheet"
+    rust_example plan "refused 10: the sheet has fewer than 46 bytes" 1 "$scratch/best_too.plan" <"$scratch/cut.sheet"
+    gone "$scratch/best_too.plan"
     rust_example validate "cost 92, cheapest 92" 0 $sheet $plan
     rust_example validate "a solution, but not at the cost that it states" 1 $sheet "$scratch/dear.plan"
     rust_fleet
@@ -94,6 +100,9 @@ rust_fleet() {
     due=$(for sheet in examples/*.sheet; do
         echo "$sheet: $("$scratch/plan" "$scratch/one.plan" <"$sheet")"
     done | LC_ALL=C sort)
+    mkdir -p "$scratch/plans"
+    touch "$scratch/plans/torn.plan"
     prints "rust/examples/fleet.rs examples" "$due" 1 fleet_lines
     same "$scratch/plans/a.plan" examples/a.plan
+    gone "$scratch/plans/torn.plan"
 }

@@ -23,16 +23,16 @@ END
     done
 }
 
-# The program in Rust, in a package of its own with the repository beside it.
+# The program in Rust, in a package of its own beside the repository.
 readme_rust() {
     local package=$scratch/rounds due
     mkdir -p "$package/src"
-    ln -s "$PWD" "$package/vanplan"
+    ln -s "$PWD" "$scratch/vanplan"
     readme_blocks toml >"$package/Cargo.toml"
     readme_blocks rust >"$package/src/main.rs"
     due="examples/a.sheet: cost 92 start 0 doors 0 1, 36 bytes
-examples/a-cycle.sheet: the pairs contradict each other
-examples/torn.sheet: refused 13: a body number or offset wrong, or the sheet's length not the end of body 7"
+examples/a-cycle.sheet: the pairs lead in a circle
+examples/torn.sheet: refused 13: a body number or offset is wrong, or the sheet does not end with its last body"
     prints "README's program in Rust" "$due" 0 \
         cargo run --quiet --offline --manifest-path "$package/Cargo.toml" -- examples/{a,a-cycle,torn}.sheet
 }
@@ -64,10 +64,35 @@ readme_fleet() {
     mkdir -p "$fleet/rounds"
     ln -s "$PWD/target" "$fleet/target"
     cp examples/*.sheet "$fleet/rounds"
+    touch "$fleet/rounds/torn.sheet.plan"
     (cd "$fleet" && bash -c "$line")
     for sheet in a eight torn twelve; do
         prints "README's folder of rounds: $sheet" "$("$scratch/plan" "$scratch/one.plan" <examples/$sheet.sheet)" 0 \
             cat "$fleet/rounds/$sheet.sheet.txt"
     done
     same "$fleet/rounds/a.sheet.plan" examples/a.plan
+    gone "$fleet/rounds/torn.sheet.plan"
+}
+
+# One test of each page: what it links to is there, the heading too.
+links() {
+    local page link file heading
+    for page in README.md docs/*.md; do
+        while IFS='#' read -r file heading; do
+            link=$(dirname "$page")/$file
+            [ -n "$file" ] || link=$page
+            if [ ! -e "$link" ]; then
+                fail "$page links to $file, which is not there"
+            elif [ -n "$heading" ] && ! headings "$link" | grep -qxF "$heading"; then
+                fail "$page links to a heading $heading, which $link does not have"
+            else
+                passed=$((passed + 1))
+            fi
+        done < <(grep -oE '\]\([^)]*\)' "$page" | sed -e 's/^](//' -e 's/)$//' | grep -v '^http')
+    done
+}
+
+# The headings of a page, as links name them.
+headings() {
+    sed -n 's/^##* //p' "$1" | tr '[:upper:] ' '[:lower:]-' | tr -cd '[:alnum:]\n_-'
 }

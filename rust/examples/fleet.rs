@@ -1,5 +1,5 @@
-//! Plans every sheet of a folder on all cores, and writes each plan to a file of the same name in another folder. Prints
-//! a line for each sheet, in the order in which they are done.
+//! Plans every sheet of a folder on all cores, and writes each plan to a file of the same name in another folder, where no
+//! old plan is left for a sheet that is refused. Prints a line for each sheet, in the order in which they are done.
 //!
 //!     cargo run --release --example fleet ../examples ../target/plans
 
@@ -22,10 +22,13 @@ fn sheets_in(folder: &Path) -> io::Result<Vec<PathBuf>> {
 
 /// Plans one sheet; the line to print is the plan, or why there is none.
 fn plan_one(planner: &mut Planner, sheet: &Path, plans: &Path) -> Result<String, Box<dyn Error>> {
-    let plan = planner.plan(&fs::read(sheet)?)?;
     let name = sheet.with_extension("plan");
-    let name = name.file_name().ok_or("a file without a name")?;
-    fs::write(plans.join(name), plan.to_bytes()?)?;
+    let file = plans.join(name.file_name().ok_or("a file without a name")?);
+    if fs::exists(&file)? {
+        fs::remove_file(&file)?;
+    }
+    let plan = planner.plan(&fs::read(sheet)?)?;
+    fs::write(file, plan.to_bytes()?)?;
     Ok(plan.to_string())
 }
 

@@ -1,5 +1,5 @@
 //! Plans a task sheet from standard input, writes the plan to a file, and prints its cost, start and doors, or why the
-//! sheet is refused.
+//! sheet is refused. A file of that name that is there is gone then: no old plan stands for a new sheet.
 //!
 //!     cargo run --release --example plan ../target/new.plan < ../examples/a.sheet
 
@@ -22,6 +22,9 @@ fn main() -> Result<ExitCode, Box<dyn Error>> {
             Ok(ExitCode::SUCCESS)
         }
         Err(refusal) => {
+            if fs::exists(file)? {
+                fs::remove_file(file)?;
+            }
             println!("{refusal}");
             Ok(ExitCode::FAILURE)
         }

@@ -15,12 +15,30 @@ pub const MAX_CELLS: usize = cells(MAX_PLAN_DOORS, 64);
 /// The version of this package, which is that of `include/vanplan.h`.
 pub const VERSION: &str = env!("CARGO_PKG_VERSION");
 
-/// The work cells that planning needs.
+/// The work cells that planning needs; for more than 64 bits hold, as many as they do.
 pub const fn cells(tasks: usize, points: usize) -> usize {
-    (1 << tasks) * points
+    if tasks >= usize::BITS as usize {
+        return usize::MAX;
+    }
+    (1_usize << tasks).saturating_mul(points)
 }
 
-/// The bytes of a plan.
+/// The bytes of a plan, held to 64 bits too.
 pub const fn plan_bytes(doors: usize) -> usize {
-    32 + 2 * doors
+    doors.saturating_mul(2).saturating_add(32)
+}
+
+#[cfg(test)]
+mod tests {
+    use super::*;
+
+    #[test]
+    fn any_numbers() {
+        assert_eq!((cells(0, 5), cells(3, 5), cells(12, 64)), (5, 40, 262_144));
+        for (tasks, points) in [(64, 1), (63, 2), (62, 64), (usize::MAX, 1)] {
+            assert_eq!(cells(tasks, points), usize::MAX);
+        }
+        assert_eq!((plan_bytes(0), plan_bytes(12)), (32, 56));
+        assert_eq!(plan_bytes(usize::MAX / 2), usize::MAX);
+    }
 }

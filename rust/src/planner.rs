@@ -5,6 +5,7 @@ use crate::plan::Plan;
 use crate::raw;
 use crate::refusal::{answered, Refusal};
 use crate::sheet::{read, Counts};
+use std::fmt;
 
 /// Plans a sheet: its cheapest plan, and of equal ones the first by start, then by first door, second door and so on.
 ///
@@ -28,9 +29,9 @@ pub fn plan(sheet: &[u8]) -> Result<Plan, Refusal> {
 /// What a cell holds that planning has left: no cost is so large.
 const LEFT: u64 = u64::MAX;
 
-/// A planner that keeps its work cells from one round to the next: at most [`MAX_CELLS`](crate::MAX_CELLS), 2 MiB, and
-/// as many as the largest round so far took.
-#[derive(Clone, Debug, Default)]
+/// A planner that keeps its work cells from one round to the next: as many as the largest round so far took, and so at
+/// most [`MAX_CELLS`](crate::MAX_CELLS), 2 MiB.
+#[derive(Clone, Default)]
 pub struct Planner {
     cells: Vec<u64>,
     /// The points of the round that the cells are of, 0 before the first.
@@ -74,9 +75,15 @@ impl Planner {
         Plan::from_bytes(&bytes[..counts.plan_bytes()])
     }
 
+    /// Neither doubles the cells, as a list that grows would, nor holds the old ones meanwhile.
     fn make_room(&mut self, counts: Counts) {
+        let needed = counts.cells();
         self.cells.clear();
-        self.cells.resize(counts.cells(), LEFT);
+        if self.cells.capacity() < needed {
+            self.cells = Vec::new();
+            self.cells.reserve_exact(needed);
+        }
+        self.cells.resize(needed, LEFT);
         self.points = counts.points;
     }
 
@@ -102,5 +109,43 @@ impl Planner {
         let row = (open as usize).checked_mul(self.points)?;
         let cell = self.cells.get(row.checked_add(point)?)?;
         Some(*cell).filter(|&cost| cost != LEFT)
+    }
+}
+
+/// How many cells there are, and not what they hold.
+impl fmt::Debug for Planner {
+    fn fmt(&self, f: &mut fmt::Formatter<'_>) -> fmt::Result {
+        let mut shown = f.debug_struct("Planner");
+        shown.field("cells", &self.cells.len());
+        shown.field("points", &self.points);
+        shown.finish()
+    }
+}
+
+#[cfg(test)]
+mod tests {
+    use super::*;
+
+    #[test]
+    fn no_more_room_than_the_largest_round_takes() {
+        let mut planner = Planner::new();
+        let mut largest = 0;
+        for (tasks, points) in [(2, 3), (12, 62), (12, 63), (1, 1), (12, 64), (12, 63)] {
+            let counts = Counts { tasks, points };
+            planner.make_room(counts);
+            assert_eq!(planner.cells.len(), counts.cells());
+            largest = largest.max(counts.cells());
+            assert_eq!(planner.cells.capacity(), largest);
+        }
+    }
+
+    #[test]
+    fn shown_without_its_cells() {
+        let mut planner = Planner::new();
+        planner.make_room(Counts {
+            tasks: 2,
+            points: 3,
+        });
+        assert_eq!(format!("{planner:?}"), "Planner { cells: 12, points: 3 }");
     }
 }

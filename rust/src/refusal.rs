@@ -1,4 +1,4 @@
-//! Why a call refused: the numbers that it can answer with, and the words of document 01, the scope of the product.
+//! Why a call refused: the numbers that it can answer with, and what each says.
 
 use crate::raw::ACCEPTED;
 use std::error::Error;
@@ -16,45 +16,45 @@ use std::fmt;
 /// let sheet = std::fs::read("../examples/a-cycle.sheet")?;
 /// let advice = match plan(&sheet) {
 ///     Ok(plan) => plan.to_string(),
-///     Err(Refusal::NoOrder) => "two pairs contradict each other".to_string(),
+///     Err(Refusal::NoOrder) => "the pairs lead in a circle".to_string(),
 ///     Err(refusal) => refusal.to_string(),
 /// };
-/// assert_eq!(advice, "two pairs contradict each other");
+/// assert_eq!(advice, "the pairs lead in a circle");
 /// # Ok::<(), std::io::Error>(())
 /// ```
 #[derive(Clone, Copy, Debug, PartialEq, Eq, Hash)]
 #[non_exhaustive]
 pub enum Refusal {
-    /// 10: sheet shorter than 46 bytes.
+    /// 10: the sheet has fewer than 46 bytes.
     TooShort,
-    /// 11: kind not 1.
+    /// 11: the sheet's kind is not 1.
     WrongKind,
-    /// 12: a number of entries outside the table of bodies; for writing and reading a plan, N outside 1 to 12, or fewer
-    /// doors than N.
+    /// 12: a number of entries is outside the limits: of a sheet's body, or P times P distances; of a plan, 1 to 12
+    /// tasks, and as many doors.
     WrongEntries,
-    /// 13: a body number or offset wrong, or the sheet's length not the end of body 7.
+    /// 13: a body number or offset is wrong, or the sheet does not end with its last body.
     WrongPlaces,
-    /// 14: a task, point, door or least count out of range, or a watched bit at N or above.
+    /// 14: a task, point, door or least count is out of range, or a task is watched that is not there.
     OutOfRange,
     /// 15: some task has no door.
     NoDoor,
-    /// 16: E plus all negative w is below zero.
+    /// 16: the end load is less than all that is picked up.
     TooLight,
     /// 17: no order of the tasks keeps every pair.
     NoOrder,
-    /// 20: fewer work cells than needed, which are 2^N times P.
+    /// 20: fewer than 2^N times P work cells are lent.
     FewCells,
-    /// 21: plan buffer shorter than 32 + 2N.
+    /// 21: the buffer for the plan is shorter than 32 + 2N bytes.
     ShortBuffer,
-    /// 30: the plan's length or any byte before 22 not as laid out for this N.
+    /// 30: the bytes are no plan of as many tasks as the sheet has.
     IllFormed,
-    /// 31: a start or door number not in the sheet.
+    /// 31: a start or a door is not in the sheet.
     NotInSheet,
-    /// 32: a task done twice.
+    /// 32: a task is done twice.
     DoneTwice,
-    /// 33: a receiver before its sender.
+    /// 33: a receiver is done before its sender.
     ReceiverFirst,
-    /// 34: the cost stated is not the cost.
+    /// 34: the cost is another one than the plan states.
     WrongCost,
 }
 
@@ -77,34 +77,44 @@ impl Refusal {
         Refusal::WrongCost,
     ];
 
-    /// Its row of document 01's table: the number and the words.
+    /// Its row of the table of refusals: the number and the words.
     const fn row(self) -> (u32, &'static str) {
         match self {
-            Refusal::TooShort => (10, "sheet shorter than 46 bytes"),
-            Refusal::WrongKind => (11, "kind not 1"),
-            Refusal::WrongEntries => (12, "a number of entries outside the table"),
+            Refusal::TooShort => (10, "the sheet has fewer than 46 bytes"),
+            Refusal::WrongKind => (11, "the sheet's kind is not 1"),
+            Refusal::WrongEntries => (12, "a number of entries is outside the limits"),
             Refusal::WrongPlaces => (
                 13,
-                "a body number or offset wrong, or the sheet's length not the end of body 7",
+                "a body number or offset is wrong, or the sheet does not end with its last body",
             ),
             Refusal::OutOfRange => (
                 14,
-                "a task, point, door or least count out of range, or a watched bit at N or above",
+                "a task, point, door or least count is out of range, or a task is watched that is not there",
             ),
             Refusal::NoDoor => (15, "some task has no door"),
-            Refusal::TooLight => (16, "E plus all negative w is below zero"),
+            Refusal::TooLight => (16, "the end load is less than all that is picked up"),
             Refusal::NoOrder => (17, "no order of the tasks keeps every pair"),
-            Refusal::FewCells => (20, "fewer work cells than needed"),
-            Refusal::ShortBuffer => (21, "plan buffer shorter than 32 + 2N"),
-            Refusal::IllFormed => (
-                30,
-                "the plan's length or any byte before 22 not as laid out for this N",
-            ),
-            Refusal::NotInSheet => (31, "a start or door number not in the sheet"),
-            Refusal::DoneTwice => (32, "a task done twice"),
-            Refusal::ReceiverFirst => (33, "a receiver before its sender"),
-            Refusal::WrongCost => (34, "the cost stated is not the cost"),
+            Refusal::FewCells => (20, "fewer than 2^N times P work cells are lent"),
+            Refusal::ShortBuffer => (21, "the buffer for the plan is shorter than 32 + 2N bytes"),
+            Refusal::IllFormed => (30, "the bytes are no plan of as many tasks as the sheet has"),
+            Refusal::NotInSheet => (31, "a start or a door is not in the sheet"),
+            Refusal::DoneTwice => (32, "a task is done twice"),
+            Refusal::ReceiverFirst => (33, "a receiver is done before its sender"),
+            Refusal::WrongCost => (34, "the cost is another one than the plan states"),
         }
+    }
+
+    /// The refusal that a call of [`raw`](crate::raw) returned, if this version knows the number.
+    ///
+    /// ```
+    /// use vanplan::{raw, Refusal};
+    ///
+    /// let number = raw::read(&[], &mut 0, &mut 0);
+    /// assert_eq!(Refusal::from_number(number), Some(Refusal::TooShort));
+    /// assert_eq!(Refusal::from_number(raw::ACCEPTED), None);
+    /// ```
+    pub fn from_number(number: u32) -> Option<Refusal> {
+        Refusal::ALL.into_iter().find(|r| r.number() == number)
     }
 
     /// The number that the C interface returns.
@@ -116,7 +126,7 @@ impl Refusal {
         self.row().0
     }
 
-    /// Document 01's words for it.
+    /// What it says, in words.
     ///
     /// ```
     /// let words = vanplan::Refusal::NoOrder.meaning();
@@ -133,7 +143,7 @@ pub(crate) fn answered(number: u32) -> Result<(), Refusal> {
     if number == ACCEPTED {
         return Ok(());
     }
-    let refusal = Refusal::ALL.into_iter().find(|r| r.number() == number);
+    let refusal = Refusal::from_number(number);
     Err(refusal.unwrap_or_else(|| panic!("the library that is linked answered {number}")))
 }
 

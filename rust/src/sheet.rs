@@ -13,7 +13,7 @@ pub struct Counts {
 }
 
 impl Counts {
-    /// The work cells that planning needs, 2^N times P.
+    /// The work cells that planning needs, 2^N times P. For numbers that no sheet has it stops at `usize::MAX`.
     ///
     /// ```
     /// let counts = vanplan::Counts { tasks: 2, points: 3 };
@@ -23,7 +23,7 @@ impl Counts {
         limits::cells(self.tasks, self.points)
     }
 
-    /// The bytes of a plan, 32 + 2N.
+    /// The bytes of a plan, 32 + 2N. It stops at `usize::MAX` too.
     ///
     /// ```
     /// let counts = vanplan::Counts { tasks: 2, points: 3 };

@@ -1,98 +1,46 @@
-//! A refusal says its number and document 01's words for it, and its name is the same in Rust and in C. The header says
-//! in which order the numbers are tested, and the README what to do about each.
+//! A refusal says its number and what it means, and its name is the same in Rust and in C. The header says in which order
+//! the numbers are tested, and the README what to do about each.
 
 mod common;
 
 use common::tested::{JUDGING, PLANNING, READING, READING_A_PLAN, WRITING_A_PLAN};
 use vanplan::{read, Refusal};
 
-/// A row of the table of document 01: number, refusal, name in C, and words, up to where the document's text goes on.
-type Row = (u32, Refusal, &'static str, &'static str);
-
-/// The rows that the calls of this package can answer with.
-const TABLE: [Row; 15] = {
+/// The numbers of document 01 that the calls can answer with, and the name of each in C.
+const TABLE: [(u32, Refusal, &str); 15] = {
     use Refusal::*;
     [
-        (10, TooShort, "TOO_SHORT", "sheet shorter than 46 bytes"),
-        (11, WrongKind, "WRONG_KIND", "kind not 1"),
-        (
-            12,
-            WrongEntries,
-            "WRONG_ENTRIES",
-            "a number of entries outside the table",
-        ),
-        (
-            13,
-            WrongPlaces,
-            "WRONG_PLACES",
-            "a body number or offset wrong",
-        ),
-        (
-            14,
-            OutOfRange,
-            "OUT_OF_RANGE",
-            "a task, point, door or least count out of range",
-        ),
-        (15, NoDoor, "NO_DOOR", "some task has no door"),
-        (
-            16,
-            TooLight,
-            "TOO_LIGHT",
-            "E plus all negative w is below zero",
-        ),
-        (
-            17,
-            NoOrder,
-            "NO_ORDER",
-            "no order of the tasks keeps every pair",
-        ),
-        (20, FewCells, "FEW_CELLS", "fewer work cells than needed"),
-        (
-            21,
-            ShortBuffer,
-            "SHORT_BUFFER",
-            "plan buffer shorter than 32 + 2N",
-        ),
-        (
-            30,
-            IllFormed,
-            "ILL_FORMED",
-            "the plan's length or any byte before 22 not as laid out",
-        ),
-        (
-            31,
-            NotInSheet,
-            "NOT_IN_SHEET",
-            "a start or door number not in the sheet",
-        ),
-        (32, DoneTwice, "DONE_TWICE", "a task done twice"),
-        (
-            33,
-            ReceiverFirst,
-            "RECEIVER_FIRST",
-            "a receiver before its sender",
-        ),
-        (
-            34,
-            WrongCost,
-            "WRONG_COST",
-            "the cost stated is not the cost",
-        ),
+        (10, TooShort, "TOO_SHORT"),
+        (11, WrongKind, "WRONG_KIND"),
+        (12, WrongEntries, "WRONG_ENTRIES"),
+        (13, WrongPlaces, "WRONG_PLACES"),
+        (14, OutOfRange, "OUT_OF_RANGE"),
+        (15, NoDoor, "NO_DOOR"),
+        (16, TooLight, "TOO_LIGHT"),
+        (17, NoOrder, "NO_ORDER"),
+        (20, FewCells, "FEW_CELLS"),
+        (21, ShortBuffer, "SHORT_BUFFER"),
+        (30, IllFormed, "ILL_FORMED"),
+        (31, NotInSheet, "NOT_IN_SHEET"),
+        (32, DoneTwice, "DONE_TWICE"),
+        (33, ReceiverFirst, "RECEIVER_FIRST"),
+        (34, WrongCost, "WRONG_COST"),
     ]
 };
 
 #[test]
-fn every_number_has_its_name_and_words() {
+fn every_number_has_its_refusal() {
     let of_a_plan = [20, 21].into_iter().chain(30..=34);
-    assert!(
-        (10..=17).chain(of_a_plan).eq(TABLE.iter().map(|row| row.0)),
-        "a number is left out"
-    );
-    for (number, refusal, _, words) in TABLE {
+    let due: Vec<u32> = (10..=17).chain(of_a_plan).collect();
+    assert_eq!(TABLE.map(|row| row.0)[..], due);
+    for number in 0..100 {
+        let row = TABLE.iter().find(|row| row.0 == number);
+        assert_eq!(Refusal::from_number(number), row.map(|row| row.1));
+    }
+    for (number, refusal, _) in TABLE {
         assert_eq!(refusal.number(), number);
-        let meaning = refusal.meaning();
-        assert!(meaning.starts_with(words), "{number} means: {meaning}");
-        assert_eq!(refusal.to_string(), format!("refused {number}: {meaning}"));
+        let words = refusal.meaning();
+        assert_eq!(refusal.to_string(), format!("refused {number}: {words}"));
     }
 }
 
@@ -111,21 +59,25 @@ fn the_header_has_the_same_names() {
     assert_eq!(named, due);
 }
 
-/// A row of its table begins with the number and the name in Rust, and says what it means and what to do.
+/// A row of its table has the number, the name in Rust, what it says, in the refusal's own words first, and what to do.
 #[test]
 fn the_readme_has_them_all() {
     let readme = include_str!("../../README.md");
-    let rows = readme.lines().filter_map(|line| {
-        let columns: Vec<&str> = line.strip_prefix("| ")?.split(" | ").collect();
-        let number: u32 = columns[0].parse().ok()?;
-        assert!(
-            columns.len() == 4 && columns.iter().all(|c| !c.is_empty()),
-            "{line}"
-        );
-        Some((number, columns[1].to_string()))
-    });
-    let due = TABLE.map(|row| (row.0, format!("`{:?}`", row.1)));
-    assert_eq!(rows.collect::<Vec<_>>(), due);
+    let rows: Vec<Vec<&str>> = readme
+        .lines()
+        .filter_map(|line| Some(line.strip_prefix("| ")?.split(" | ").collect()))
+        .filter(|columns: &Vec<&str>| columns[0].parse::<u32>().is_ok())
+        .collect();
+    assert_eq!(rows.len(), TABLE.len());
+    for (columns, (number, refusal, _)) in rows.iter().zip(TABLE) {
+        let [at, name, says, to_do] = columns[..] else {
+            panic!("four columns: {columns:?}");
+        };
+        assert_eq!(at, number.to_string());
+        assert_eq!(name, format!("`{refusal:?}`"));
+        assert!(says.starts_with(refusal.meaning()), "{number}: {says}");
+        assert!(to_do.len() > 20, "{number}: {to_do}");
+    }
 }
 
 #[test]
@@ -148,5 +100,8 @@ fn the_header_has_the_same_order() {
 #[test]
 fn a_refusal_is_an_error() {
     let error: Box<dyn std::error::Error> = read(&[]).expect_err("no bytes are no sheet").into();
-    assert_eq!(error.to_string(), "refused 10: sheet shorter than 46 bytes");
+    assert_eq!(
+        error.to_string(),
+        "refused 10: the sheet has fewer than 46 bytes"
+    );
 }

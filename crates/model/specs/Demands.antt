@@ -118,6 +118,7 @@ pub record Cheapest (b cells buffer : List ℕ) : Type 0 where
   pub beyond : (i : ℕ) → 2 ^ decode b .tasks * decode b .points ≤ i → getD (plan b cells buffer .cells) i 0 ≡ getD cells i 0
   pub as-many : length (plan b cells buffer .cells) ≡ length cells
 
+-- for all that are `Lent`: that is what `demand-3` asks
 pub record Demand3 (b cells buffer : List ℕ) : Type 0 where
   -- reading and planning refuse with 17 exactly when no order of the tasks keeps every pair
   pub reading-refuses-iff : (readSheet b ≡ refused 17) ↔ ((ts : List ℕ) → isAdmissible (decode b) ts ≡ true → ⊥)
