@@ -5,7 +5,8 @@ use Rattle.model.specs.Sheet.{Sheet}
 use Rattle.view.specs.declared.View.{View}
 use Rattle.view.proofs.Counted.{points-are}
 use Rattle.row.specs.Leasts.{throughGathered}
-use Rattle.table.proofs.Bellman.{throughNth, OpenList}
+use Rattle.table.specs.Cells.{restRows}
+use Rattle.table.proofs.Bellman.{throughNth, rests-below, OpenList}
 use Rattle.table.proofs.ListRows.{Holding}
 use Rattle.complete.specs.Completed.{bestDoors, nextDoor, Completable}
 use Rattle.complete.proofs.NextDoor.{NextIs, some-attains, first-attains}
@@ -33,21 +34,21 @@ module _ {b : List ℕ} {v : View} {K p : ℕ} {cells : List ℕ} (C : Completab
   cell-is = rw points (C .known K p (omega arith) (C .allowed) (C .point))
 
   -- where something is open
-  pub opened : K ≢ 0 → areBytes b ≡ true → OpenList b v K cells
+  pub opened : K ≢ 0 → areBytes b ≡ true → OpenList b v K cells (restRows (decode b .points) K)
   opened some bytes = record {
     sheet = C .sheet;
     bytes = bytes;
     list = C .list;
     ess = is-essential (decode b) K (C .allowed) some;
-    room = omega (arith, C .room);
-    known = λ J q l a m. C .known J q (omega arith) a m;
+    rests = rests-below K (C .sheet .plannable .ranges) (C .sheet .counts .tasks) (C .allowed) (omega (arith, C .room))
+        (λ J q l a m. C .known J q (omega arith) a m);
   }
 
   -- the place that the code finds among the doors that it holds
-  module _ (O : OpenList b v K cells) {w m : ℕ} {doors arrives costs : List ℕ} (h : Holding (decode b) K cells w m doors arrives costs)
+  module _ {rows : List ℕ} (O : OpenList b v K cells rows) {w m : ℕ} {doors arrives costs : List ℕ} (h : Holding (decode b) K cells rows w m doors arrives costs)
       {i here : ℕ} (hh : here ≡ getD cells (K * v .points + p) 0)
       (hi : i ≡ indexOf here (mapBelow (length (take m costs)) (throughGathered (decode b) w (take m arrives) (take m costs) p))) where
-    place : FirstAt (throughNth (decode b) K cells p) (length (firstDoors (decode b) K)) (costToGo (decode b) K p) i
+    place : FirstAt (throughNth (decode b) K cells rows p) (length (firstDoors (decode b) K)) (costToGo (decode b) K p) i
     place =
         let s = some-attains O p in
         rw (hi, hh, cell-is, h .load-is, h .arrival .is, h .part .is, length-map) (found-first _ _ (costToGo (decode b) K p) (s .0) (s .1) (s .2))

@@ -29,7 +29,7 @@ module _ (S : Sheet) (G : Plannable S) (K p : ℕ) (below : K < 2 ^ S .tasks) (e
   pub chosen-next : NextIs S K p (chosen .door)
   chosen-next = record { rest = chosen .rest; in-sheet = chosen .in-sheet; can = chosen .can; begins = chosen .begins; goes-on = chosen .goes-on }
 
-module _ {b : List ℕ} {v : View} {K : ℕ} {cells : List ℕ} (O : OpenList b v K cells) (p : ℕ) where
+module _ {b : List ℕ} {v : View} {K : ℕ} {cells rows : List ℕ} (O : OpenList b v K cells rows) (p : ℕ) where
   abbrev door : let n = essential-size (decode b) K (O .list) (O .ess) in FirstDoor (decode b) (O .sheet .plannable) K p (O .list) (n .0) (n .1)
   door = chosen (decode b) (O .sheet .plannable) K p (O .list) (O .ess)
 
@@ -37,22 +37,22 @@ module _ {b : List ℕ} {v : View} {K : ℕ} {cells : List ℕ} (O : OpenList b 
   place : (i : ℕ) × (i < length (firstDoors (decode b) K)) × (getD (firstDoors (decode b) K) i 0 ≡ door .door)
   place = first-place (decode b) K (door .door) (door .in-sheet) (door .can)
 
-  attained : throughNth (decode b) K cells p (place .0) ≡ costToGo (decode b) K p
+  attained : throughNth (decode b) K cells rows p (place .0) ≡ costToGo (decode b) K p
   attained = through-is O p (place .0) (place .1) ∙ ap (throughDoor (decode b) K p) (place .2) ∙ door .equal
 
-  pub some-attains : (i : ℕ) × (i < length (firstDoors (decode b) K)) × (throughNth (decode b) K cells p i ≡ costToGo (decode b) K p)
+  pub some-attains : (i : ℕ) × (i < length (firstDoors (decode b) K)) × (throughNth (decode b) K cells rows p i ≡ costToGo (decode b) K p)
   some-attains = (place .0, place .1, attained)
 
   -- no door before it attains the cost to go
-  not-before : (i : ℕ) → i < place .0 → throughNth (decode b) K cells p i ≡ costToGo (decode b) K p → ⊥
+  not-before : (i : ℕ) → i < place .0 → throughNth (decode b) K cells rows p i ≡ costToGo (decode b) K p → ⊥
   not-before i l e =
       let m : i < length (firstDoors (decode b) K) = omega (arith, place .1) in
       let d : getD (firstDoors (decode b) K) i 0 < door .door = omega (arith, first-rises (decode b) K i (place .0) l (place .1), place .2) in
       omega (arith, door .none-before (getD (firstDoors (decode b) K) i 0) d (first-each (decode b) K i m .1), through-is O p i m)
 
   -- so the first that does is that door
-  pub first-attains : (i : ℕ) → throughNth (decode b) K cells p i ≡ costToGo (decode b) K p
-      → ((j : ℕ) → j < i → throughNth (decode b) K cells p j ≢ costToGo (decode b) K p) → NextIs (decode b) K p (getD (firstDoors (decode b) K) i 0)
+  pub first-attains : (i : ℕ) → throughNth (decode b) K cells rows p i ≡ costToGo (decode b) K p
+      → ((j : ℕ) → j < i → throughNth (decode b) K cells rows p j ≢ costToGo (decode b) K p) → NextIs (decode b) K p (getD (firstDoors (decode b) K) i 0)
   first-attains i e none =
       let low : i < place .0 → ⊥ = λ l. not-before i l e in
       let high : place .0 < i → ⊥ = λ l. none (place .0) l attained in

@@ -1,75 +1,36 @@
 -- The plan is carried out: the cells show the costs to go, so the start chosen from them and the completion from there are the cheapest plan; what is written
 -- is that plan. Assumes nothing.
-use Rattle.model.proofs.Basics.{_≡_, sym, ap, _∙_, true, List, [], some, ℕ, _≤_, _<_, length, getD, le-ltb}
-use Rattle.model.specs.{passingBelow, firstLeast, full, Plan, planCost, cheapest, completions, costToGo, cheapestCompletion, cost}
+use Rattle.model.proofs.Basics.{_≡_, sym, ap, _∙_, List, some, ℕ, _≤_, _<_, length, getD, le-ltb}
+use Rattle.model.specs.{full, Plan, planCost, cheapest}
 use Rattle.model.specs.{overwrite, accepted, decode, maxPlanDoors, planLength, planBytes, shortRoom, writePlan, cellsNeeded}
 use Rattle.model.specs.PlanInHand.{PlanInHand}
-use Rattle.model.specs.{fewCells, roomTests, planFor, cellsAfter, plan, maxTasks, InRange}
-use Rattle.model.proofs.Tools.Lists.{all-flat}
-use Rattle.model.proofs.Tools.Choices.{first-some, first-cong}
-use Rattle.model.proofs.Tools.Scans.{FirstOf, scan}
-use Rattle.model.proofs.TaskLists.Masks.{full-lt}
+use Rattle.model.specs.{fewCells, roomTests, planFor, cellsAfter, plan, maxTasks}
 use Rattle.model.proofs.Theory.Cheapest.{cheapest-solution}
 use Rattle.model.proofs.Theory.Solutions.{solution, solution-length}
-use Rattle.model.proofs.Theory.Driving.{some-completion}
-use Rattle.model.proofs.Theory.Starts.{cheapest-from}
-use Rattle.model.proofs.Theory.OpenAlong.{full-allowed}
 use Rattle.model.proofs.Bytes.PlanBytes.{tasks-fit, plan-cong, array-at, written-over}
 use Rattle.model.proofs.Bytes.InHand.{Holds, with-doors}
 use Rattle.model.proofs.Calls.Reading.{reads-then, counts-read}
 use Rattle.model.proofs.Calls.Planning.{planned, plannable}
-use mathlib.Core.Option.{Option·getD}
-use Rattle.table.proofs.Filling.{shown-after}
 use Rattle.complete.specs.Completed.{bestDoors, completed}
-use Rattle.planner.specs.Choosing.{startAt, startCost, firstStart}
+use Rattle.start.specs.Choosing.{firstStart}
+use Rattle.start.proofs.Starting.{roundFrom, cheapest-there}
 use Rattle.planner.proofs.Sheets.{Roomy}
 
--- what the whole round costs from start s
-abbrev roundFrom : List ℕ → ℕ → ℕ
-roundFrom b s = costToGo (decode b) (full (decode b .tasks)) (decode b .startPoint s)
-
 module _ {b cells buffer : List ℕ} (R : Roomy b cells buffer) where
-  ranges : InRange (decode b)
-  ranges = plannable b (R .reads) .ranges
-
-  -- ---- the start
-
-  -- a start's cell shows its cost to go with the full list open
-  start-shown : (s : ℕ) → s < decode b .starts → startCost (decode b) (cellsAfter (decode b) cells) s ≡ roundFrom b s
-  unfolding startCost startAt cellsNeeded
-  start-shown s l = shown-after (decode b) cells (R .room) (counts-read b (R .reads) .one-point) (full (decode b .tasks)) (decode b .startPoint s)
-      (full-lt (decode b .tasks)) (full-allowed (decode b) ranges) (ranges .start s l)
-
-  -- s is what the code chose
-  module _ {s : ℕ} (chosen : some s ≡ firstStart (decode b) (cellsAfter (decode b) cells)) where
-    first : firstLeast (roundFrom b) (passingBelow (decode b .starts) (λ s. true)) ≡ some s
-    unfolding firstStart
-    first = sym (first-cong (startCost (decode b) (cellsAfter (decode b) cells)) _ (passingBelow (decode b .starts) (λ s. true))
-        (all-flat _ (decode b .starts) _ (λ s l. (start-shown s l, tt)))) ∙ sym chosen
-
-    pub start-below : s < decode b .starts
-    start-below =
-        let x : FirstOf (roundFrom b) (λ s. true) (decode b .starts) s = rw first at (scan (roundFrom b) (λ s. true) (decode b .starts)) in
-        x .below
-
+  -- s is what the code chose, from a row that shows what the whole round costs
+  module _ (row : List ℕ) {s : ℕ} (shows : (s : ℕ) → s < decode b .starts → getD row (decode b .startPoint s) 0 ≡ roundFrom (decode b) s)
+      (chosen : some s ≡ firstStart (decode b) row) where
     -- ---- the doors
 
     route : List ℕ
     route = bestDoors (decode b) (full (decode b .tasks)) (decode b .startPoint s)
 
-    from-there : cheapestCompletion (decode b) (full (decode b .tasks)) (decode b .startPoint s) ≡ some route
-    unfolding route bestDoors cheapestCompletion
-    from-there =
-        let r = first-some (cost (decode b) (decode b .startPoint s)) (completions (decode b) (full (decode b .tasks)))
-        (some-completion (decode b) (plannable b (R .reads)) (full (decode b .tasks))) in
-        r .1 ∙ ap (λ o. some (Option·getD o [])) (sym (r .1))
-
     best : Plan
     best = record { start = s; doors = route }
 
-    is-cheapest : (cheapest (decode b) ≡ some best) × (planCost (decode b) best ≡ roundFrom b s)
-    unfolding best
-    is-cheapest = cheapest-from (decode b) (plannable b (R .reads)) s route first from-there
+    is-cheapest : (cheapest (decode b) ≡ some best) × (planCost (decode b) best ≡ roundFrom (decode b) s)
+    unfolding best route bestDoors
+    is-cheapest = cheapest-there (decode b) row shows chosen (plannable b (R .reads))
 
     route-length : length route ≡ decode b .tasks
     unfolding best
@@ -91,9 +52,9 @@ module _ {b cells buffer : List ℕ} (R : Roomy b cells buffer) where
       few-doors : length route ≤ maxTasks
       few-doors = rw route-length (counts-read b (R .reads) .tasks)
 
-      holds : Holds x (roundFrom b s) route
+      holds : Holds x (roundFrom (decode b) s) route
       unfolding completed route
-      holds = rw hand (with-doors (roundFrom b s) route few-doors)
+      holds = rw hand (with-doors (roundFrom (decode b) s) route few-doors)
 
       cost-is : x .cost ≡ planCost (decode b) best
       cost-is = holds .cost-is ∙ sym (is-cheapest .1)

@@ -1,8 +1,10 @@
 -- A sheet that reads has what the planner's calls ask, and its refusals for want of room. Assumes nothing.
-use Rattle.model.proofs.Basics.{_≡_, refl, sym, ap, _∙_, List, ℕ, _+_, _*_, _^_, _≤_, _<_, arith, length, pow-pos, lt-ltb, le-ltb}
-use Rattle.model.specs.{full, maxListed, fullOf, refused, decode, readSheet, planLength, shortRoom, cellsNeeded, fewCells, roomTests}
+use Rattle.model.proofs.Basics.{_≡_, refl, sym, ap, ap₂, _∙_, List, ℕ, _+_, _*_, _^_, _≤_, _<_, _-_, arith, length, getD, take, drop, pow-pos, lt-ltb, le-ltb}
+use lib.ListN.{length-drop}
+use lib.Seq.{take-length, getD-drop}
+use Rattle.model.specs.{full, maxListed, listsOf, fullOf, refused, decode, readSheet, planLength, shortRoom, cellsNeeded, fewCells, roomTests}
 use Rattle.model.specs.{planFor, cellsAfter, Planned, plan}
-use Rattle.model.proofs.TaskLists.Masks.{full-lt, full-of}
+use Rattle.model.proofs.TaskLists.Masks.{full-lt, lists-of, full-of}
 use Rattle.model.proofs.Theory.Loads.{light, loads-hold}
 use Rattle.model.proofs.Theory.OpenAlong.{full-allowed}
 use Rattle.model.proofs.Bytes.Entries.{tasks-listed}
@@ -11,19 +13,25 @@ use Rattle.model.proofs.Calls.Planning.{length-cells, plan-refused, plannable}
 use lib.Arith.{digits-lt}
 use Rattle.view.specs.declared.View.{View}
 use Rattle.view.specs.Views.{viewOf, Viewed}
-use Rattle.view.proofs.Counted.{tasks-are}
+use Rattle.view.proofs.Counted.{tasks-are, points-are}
 use Rattle.sheet.proofs.Laid as Laid
 use Rattle.sheet.proofs.Laid.{reads-laid}
 use Rattle.table.specs.Cells.{Fillable}
 use Rattle.table.proofs.Filling.{shown-after}
 use Rattle.complete.specs.Completed.{Completable}
-use Rattle.planner.specs.Choosing.{startAt, Startable}
+use Rattle.start.specs.Choosing.{Startable}
+use Rattle.start.proofs.Starting.{roundFrom}
 
 -- past the tests: the sheet reads, and there is room for the cells and for the plan
 pub record Roomy (b cells buffer : List ℕ) : Type 0 where
   pub reads : Reads b
   pub room : cellsNeeded (decode b) ≤ length cells
   pub wide : planLength (decode b .tasks) ≤ length buffer
+
+-- the cells that the code counts, n being its number of lists
+pub needed-is : {b : List ℕ} {v : View} {n : ℕ} → Viewed b v → decode b .tasks ≤ maxListed → n ≡ listsOf (v .tasks) → n * v .points ≡ cellsNeeded (decode b)
+unfolding cellsNeeded
+needed-is h few e = ap₂ _*_ (e ∙ ap listsOf (tasks-are h) ∙ lists-of _ few) (points-are h)
 
 -- what planning leaves, part by part
 pub in-parts : {p q : Planned} → p ≡ q → (q .answer ≡ p .answer) × ((q .cells ≡ p .cells) × (q .bytes ≡ p .bytes))
@@ -77,14 +85,32 @@ module _ (b : List ℕ) (h : Reads b) where
       unfolding cellsNeeded
       whole = rw (length-cells (decode b) cells) room
 
-      pub startable : {new : List ℕ} → new ≡ cellsAfter (decode b) cells → Startable b v new
-      unfolding startAt
-      startable e = rw e (record {
-        view = viewed;
-        few = few;
-        one-start = counts-read b h .one-start;
-        held = λ s l. omega (arith, whole, digits-lt (full-lt (decode b .tasks)) (plannable b h .ranges .start s l));
-      })
+      -- the row of the full list, as the code takes it from there on: k and n are its full list and its number of points
+      module _ {k n : ℕ} {new : List ℕ} (full-here : k ≡ full (decode b .tasks)) (points-here : n ≡ decode b .points) (filled : new ≡ cellsAfter (decode b) cells) where
+        start-in : (s : ℕ) → s < decode b .starts → k * n + decode b .startPoint s < length new
+        start-in s l = rw (full-here, points-here, filled)
+            (omega (arith, whole, digits-lt (full-lt (decode b .tasks)) (plannable b h .ranges .start s l)))
+
+        pub row-within : k * n ≤ length new
+        row-within = omega (arith, start-in 0 (counts-read b h .one-start))
+
+        -- as the code lends it: the cells from there to the end
+        to-end : take (length new - k * n) (drop (k * n) new) ≡ drop (k * n) new
+        to-end = ap (λ (m : ℕ). take m (drop (k * n) new)) (sym (length-drop (k * n) new)) ∙ take-length (drop (k * n) new)
+
+        pub startable : Startable b v (take (length new - k * n) (drop (k * n) new))
+        startable = rw to-end (record {
+          view = viewed;
+          one-start = counts-read b h .one-start;
+          held = λ s l. rw length-drop (omega (arith, start-in s l));
+        })
+
+        -- it shows what the whole round costs from each start
+        pub row-shows : (s : ℕ) → s < decode b .starts → getD (take (length new - k * n) (drop (k * n) new)) (decode b .startPoint s) 0 ≡ roundFrom (decode b) s
+        unfolding cellsNeeded
+        row-shows s l = rw to-end (getD-drop (k * n) new (decode b .startPoint s) 0 ∙ rw (full-here, points-here, filled)
+            (shown-after (decode b) cells room (counts-read b h .one-point) (full (decode b .tasks)) (decode b .startPoint s)
+            (full-lt (decode b .tasks)) (full-allowed (decode b) (plannable b h .ranges)) (plannable b h .ranges .start s l)))
 
       next-full : full (decode b .tasks) + 1 ≡ 2 ^ decode b .tasks
       unfolding full

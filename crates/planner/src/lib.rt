@@ -1,7 +1,6 @@
 // Planning: the cheapest plan of a sheet, written as bytes, with the table of costs to go left in the cells.
 ghost use mathlib.Core.Path.{_≡_};
-ghost use mathlib.Core.Option.{some};
-ghost use Prim.Native.Nat.{_≤_, _<_};
+ghost use Prim.Native.Nat.{_≤_};
 ghost use Rattle.model.specs.Method.{maxListed};
 ghost use Rattle.model.specs.Answer.{status};
 ghost use Rattle.model.specs.SheetLayout.{decode};
@@ -9,7 +8,6 @@ ghost use Rattle.model.specs.Faults.{readSheet};
 ghost use Rattle.model.specs.Planning.{cellsNeeded, plan};
 ghost use Rattle.view.specs.Views.{viewOf, Viewed};
 ghost use Rattle.planner.specs.Answers.{answerOf};
-ghost use Rattle.planner.specs.Choosing.{startCost, firstStart, Startable};
 use refusal::Refusal;
 use sheet::Reading;
 use view::View;
@@ -41,35 +39,6 @@ fn cells_needed(s: &[u8], v: View) -> usize
     tasklist::lists(v.tasks) as usize * v.points as usize
 }
 
-// What the whole round costs from start i, by the row of the full list.
-fn start_cost(s: &[u8], v: View, cells: &[u64], i: u16) -> u64
-    requires { ⌜ Startable (now s) v (now cells) × (i < decode (now s) .starts) ⌝ }
-    ensures { λ r. ⌜ r ≡ startCost (decode (now (s .entry))) (now (cells .entry)) i ⌝ }
-{
-    let from = tasklist::full(v.tasks) as usize * v.points as usize;
-    cells[from + view::start_point(s, v, i) as usize]
-}
-
-// The first of the starts from which the whole round costs least.
-fn first_start(s: &[u8], v: View, cells: &[u64]) -> u16
-    requires { ⌜ Startable (now s) v (now cells) ⌝ }
-    ensures { λ r. ⌜ some r ≡ firstStart (decode (now (s .entry))) (now (cells .entry)) ⌝ }
-{
-    let starts = v.starts;
-    let mut best: u16 = 0;
-    let mut least = start_cost(s, v, cells, 0);
-    let mut i: u16 = 1;
-    while i < starts {
-        let c = start_cost(s, v, cells, i);
-        if c < least {
-            best = i;
-            least = c;
-        }
-        i = i + 1;
-    }
-    best
-}
-
 // The same as `plan` for a sheet that reads, with its view: 20 and 21 are tested before anything is touched.
 fn plan_sheet(s: &[u8], v: View, cells: &mut [u64], buf: &mut [u8]) -> Planning
     requires { ⌜ (status (readSheet (now s)) ≡ 0) × (v ≡ viewOf (now s)) ⌝ }
@@ -86,9 +55,11 @@ fn plan_sheet(s: &[u8], v: View, cells: &mut [u64], buf: &mut [u8]) -> Planning
         return Planning::Refused(Refusal::ShortBuffer);
     }
     table::fill(s, v, cells);
-    let start = first_start(s, v, cells);
-    let from = view::start_point(s, v, start);
-    let x = complete::complete(s, v, from, tasklist::full(v.tasks), cells);
+    let full = tasklist::full(v.tasks);
+    let from = full as usize * v.points as usize;
+    let start = start::first_start(s, v, &cells[from..]);
+    let point = view::start_point(s, v, start);
+    let x = complete::complete(s, v, point, full, cells);
     let doors = x.doors;
     plan::write(v.tasks as usize, start, &doors, x.cost, buf);
     Planning::Planned(x.cost)

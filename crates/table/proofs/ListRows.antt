@@ -1,15 +1,15 @@
 -- What the code has with one list open: the rows of the rest, the load, and the arrays that were gathered. These are what a row and a search ask, and the row
 -- is that of the costs to go. Assumes nothing.
-use Rattle.model.proofs.Basics.{_≡_, sym, ap, _∙_, List, map, ℕ, _≤_, _<_, arith, T, length, getD, take, drop, length-map, List·getD-append}
+use Rattle.model.proofs.Basics.{_≡_, sym, ap, _∙_, List, map, true, ℕ, _^_, _≤_, _<_, arith, T, length, getD, take, drop, length-map, List·getD-append}
 use Rattle.model.proofs.Basics.{pos, natAbs}
-use Rattle.model.specs.{mapBelow, overwrite, load, costToGo, firstDoors, maxDoors, decode}
+use Rattle.model.specs.{mapBelow, overwrite, essential, load, costToGo, firstDoors, maxDoors, decode}
 use Rattle.model.specs.Sheet.{Sheet}
 use lib.Signed.{nonNeg}
 use Rattle.view.specs.declared.View.{View}
 use Rattle.view.proofs.Counted.{points-are}
 use Rattle.gather.specs.Gathering.{partOf, Gatherable}
 use Rattle.row.specs.Leasts.{leastFrom, Gathered}
-use Rattle.table.specs.Cells.{restRows}
+use Rattle.table.specs.Cells.{restRows, Fillable}
 use Rattle.table.proofs.Parts.{front-is, front-there, map-cong-below}
 use Rattle.table.proofs.Bellman.{arrivals, parts, OpenList, gatherable, gathered, row-is}
 
@@ -29,42 +29,44 @@ in-front xs rest ys m e h = record {
 }
 
 -- when the doors are gathered: the load w, their count m, and the three arrays
-pub record Holding (S : Sheet) (K : ℕ) (cells : List ℕ) (w m : ℕ) (doors arrives costs : List ℕ) : Type 0 where
+pub record Holding (S : Sheet) (K : ℕ) (cells rows : List ℕ) (w m : ℕ) (doors arrives costs : List ℕ) : Type 0 where
   pub load-is : w ≡ natAbs (load S K)
   pub count : m ≡ length (firstDoors S K)
   pub door : InFront (firstDoors S K) m doors
   pub arrival : InFront (arrivals S K) m arrives
-  pub part : InFront (parts S K cells) m costs
+  pub part : InFront (parts S K cells rows) m costs
 
-module _ {b : List ℕ} {v : View} {K : ℕ} {cells : List ℕ} (O : OpenList b v K cells) where
-  pub load-asks : T (nonNeg (load (decode b) K))
-  load-asks = O .sheet .loads K (O .list) (O .ess)
+-- the load of an essential list is not below zero
+pub load-asks : {b : List ℕ} {v : View} {K : ℕ} → Fillable b v → K < 2 ^ decode b .tasks → essential (decode b) K ≡ true → T (nonNeg (load (decode b) K))
+load-asks {b} {v} {K} f l e = f .loads K l e
 
-  -- rows: where the code has the rows of the rest begin
-  module _ {rows : List ℕ} (begin : rows ≡ restRows (v .points) K) where
-    rows-are : rows ≡ restRows (decode b .points) K
-    rows-are = begin ∙ ap (λ (n : ℕ). restRows n K) (points-are (O .sheet .view))
+-- in a table by number the code has the rows of the rest begin where they do
+pub rows-are : {b rows : List ℕ} {v : View} (K : ℕ) → Fillable b v → rows ≡ restRows (v .points) K → rows ≡ restRows (decode b .points) K
+rows-are {b} {rows} {v} K f e = e ∙ ap (λ (n : ℕ). restRows n K) (points-are (f .view))
 
-    pub gather-asks : Gatherable b v K cells rows 1 × ((decode b .doors ≤ maxDoors) × (decode b .doors ≤ maxDoors) × (decode b .doors ≤ maxDoors))
-    gather-asks = let d = O .sheet .counts .doors in (rw rows-are (gatherable O), (d, d, d))
+module _ {b : List ℕ} {v : View} {K : ℕ} {cells rows : List ℕ} (O : OpenList b v K cells rows) where
+  -- begins: where the code has the rows of the rest begin
+  module _ {begins : List ℕ} (same : begins ≡ rows) where
+    pub gather-asks : Gatherable b v K cells begins 1 × ((decode b .doors ≤ maxDoors) × (decode b .doors ≤ maxDoors) × (decode b .doors ≤ maxDoors))
+    gather-asks = let d = O .sheet .counts .doors in (rw same (gatherable O), (d, d, d))
 
     -- what the load and gathering leave; x, y and z are what the arrays held before
     pub hold : {w m : ℕ} {doors arrives costs : List ℕ} (x y z : List ℕ) → pos w ≡ load (decode b) K
         → (m ≡ length (firstDoors (decode b) K)) × ((doors ≡ overwrite (firstDoors (decode b) K) x)
         × ((arrives ≡ overwrite (map (decode b .arrive) (firstDoors (decode b) K)) y)
-        × (costs ≡ overwrite (map (partOf (decode b) K cells rows 1) (firstDoors (decode b) K)) z)))
-        → Holding (decode b) K cells w m doors arrives costs
+        × (costs ≡ overwrite (map (partOf (decode b) K cells begins 1) (firstDoors (decode b) K)) z)))
+        → Holding (decode b) K cells rows w m doors arrives costs
     hold {w} {m} {doors} {arrives} {costs} x y z weight e = record {
       load-is = ap natAbs weight;
       count = e .0;
       door = in-front (firstDoors (decode b) K) x doors m (e .1 .0) (e .0);
       arrival = in-front (arrivals (decode b) K) y arrives m (e .1 .1 .0) (e .0 ∙ sym (length-map (firstDoors (decode b) K) _));
-      part = in-front (parts (decode b) K cells) z costs m
-          (e .1 .1 .1 ∙ ap (λ (r : List ℕ). overwrite (map (partOf (decode b) K cells r 1) (firstDoors (decode b) K)) z) rows-are)
+      part = in-front (parts (decode b) K cells rows) z costs m
+          (e .1 .1 .1 ∙ ap (λ (r : List ℕ). overwrite (map (partOf (decode b) K cells r 1) (firstDoors (decode b) K)) z) same)
           (e .0 ∙ sym (length-map (firstDoors (decode b) K) _));
     }
 
-  module _ {w m : ℕ} {doors arrives costs : List ℕ} (h : Holding (decode b) K cells w m doors arrives costs) where
+  module _ {w m : ℕ} {doors arrives costs : List ℕ} (h : Holding (decode b) K cells rows w m doors arrives costs) where
     -- that is what a row asks
     pub given : Gathered b v w (take m arrives) (take m costs)
     given = rw (h .load-is, h .arrival .is, h .part .is) (gathered O)

@@ -3,8 +3,9 @@
 use Rattle.model.proofs.Basics.{_≡_, refl, sym, _+_, _*_, _^_, _<_, arith, length, length-take-le, needs}
 use Rattle.model.specs.{maxDoors, decode}
 use Rattle.model.proofs.Tools.Elements.{are-bytes}
+use Rattle.table.specs.Cells.{restRows}
 use Rattle.table.proofs.Bellman.{OpenList}
-use Rattle.table.proofs.ListRows.{Holding, load-asks, gather-asks, hold, given}
+use Rattle.table.proofs.ListRows.{Holding, load-asks, rows-are, gather-asks, hold, given}
 use Rattle.complete.proofs.Choosing.{cell-in, opened, found-in, found-is}
 use Rattle.complete.proofs.next_door.Statement.{statement}
 use Rattle.complete.proofs.next_door.Tie as tie
@@ -25,26 +26,27 @@ small : (c : tie.After-shared-slice-known2) → let a = c .before .before .args 
 small c = omega (arith, there c)
 
 -- the list is open
-is-open : (c : tie.After-shared-slice-known2) → let a = c .before .before .args in OpenList (a .s .now) (a .v) (a .k) (a .cells .now)
+is-open : (c : tie.After-shared-slice-known2) → let a = c .before .before .args in OpenList (a .s .now) (a .v) (a .k) (a .cells .now) (restRows (decode (a .s .now) .points) (a .k))
 is-open c = let s = c .before .before in opened (s .pre .0) (s .pre .1) (are-bytes (s .args .s .now) (c .before .shared-slice-known .given))
 
 -- what the code has once the doors are gathered
 holds : (c : tie.After-gather) →
     let a = entered c .args in
     let l = c .gather .last .1 .1 .1 .1 .1 .1 in
-    Holding (decode (a .s .now)) (a .k) (a .cells .now) (c .before .before .before .before .before .before .load .result) (c .gather .result)
+    Holding (decode (a .s .now)) (a .k) (a .cells .now) (restRows (decode (a .s .now) .points) (a .k)) (c .before .before .before .before .before .before .load .result) (c .gather .result)
     (l .0) (l .1 .0) (l .1 .1 .0)
 holds c =
     let r = c .before .before .before .before .before in
-    hold (is-open (begun (c .before))) (r .rest-rows .ensures) _ _ _ (r .before .load .ensures) (c .gather .ensures)
+    hold (is-open (begun (c .before))) (rows-are _ (entered c .pre .0 .sheet) (r .rest-rows .ensures)) _ _ _ (r .before .load .ensures) (c .gather .ensures)
 
 -- ---- the needs
 
 load-requires : tie.Need-load-requires
-load-requires c κs = (c .before .before .pre .0 .sheet .view, load-asks (is-open c))
+load-requires c κs = let o = is-open c in (o .sheet .view, load-asks (o .sheet) (o .list) (o .ess))
 
 gather-requires : tie.Need-gather-requires
-gather-requires c κs = gather-asks (is-open (begun c)) (c .before .before .before .before .rest-rows .ensures)
+gather-requires c κs =
+    gather-asks (is-open (begun c)) (rows-are _ (begun c .before .before .pre .0 .sheet) (c .before .before .before .before .rest-rows .ensures))
 
 array-share-prefix-arrivals : tie.Need-array-share-prefix-arrivals
 array-share-prefix-arrivals c = holds (c .before .before .before .before .before) .arrival .fits

@@ -1,6 +1,6 @@
 -- 32 bits times 16 bits do not wrap in 64. Assumes nothing.
 use Rattle.model.proofs.Basics.{_*_, _≤_, mul-le-mul-right, arith, needs}
-use Rattle.planner.proofs.Starting.{needed-is}
+use Rattle.planner.proofs.Sheets.{needed-is}
 use Rattle.planner.proofs.cells_needed.Statement.{statement}
 use Rattle.planner.proofs.cells_needed.Tie as tie
 

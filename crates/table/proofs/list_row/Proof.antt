@@ -4,9 +4,10 @@ use Rattle.model.proofs.Basics.{refl, sym, _+_, _*_, _^_, _≤_, _<_, arith, le
 use Rattle.model.specs.{decode, costToGo}
 use Rattle.model.proofs.Tools.Elements.{are-bytes}
 use Rattle.view.proofs.Counted.{points-are}
+use Rattle.table.specs.Cells.{restRows}
 use Rattle.table.proofs.Parts.{row-ends, row-length, row-written}
-use Rattle.table.proofs.Bellman.{OpenList}
-use Rattle.table.proofs.ListRows.{Holding, load-asks, gather-asks, hold, given, row-of}
+use Rattle.table.proofs.Bellman.{essential-allowed, rests-below, OpenList}
+use Rattle.table.proofs.ListRows.{Holding, load-asks, rows-are, gather-asks, hold, given, row-of}
 use Rattle.table.proofs.list_row.Statement.{statement}
 use Rattle.table.proofs.list_row.Tie as tie
 
@@ -31,7 +32,8 @@ small : (c : tie.After-slice-known) → let a = entered c .args in (a .k * a .v 
 small c = omega (arith, held c)
 
 -- the list is open, and the cells below it show what is asked
-is-open : (c : tie.After-slice-known) → let a = entered c .args in OpenList (a .s .now) (a .v) (a .k) (a .cells .now)
+is-open : (c : tie.After-slice-known) →
+    let a = entered c .args in OpenList (a .s .now) (a .v) (a .k) (a .cells .now) (restRows (decode (a .s .now) .points) (a .k))
 is-open c =
     let a = entered c .args in
     let p = entered c .pre in
@@ -40,27 +42,28 @@ is-open c =
       bytes = are-bytes (a .s .now) (c .before .shared-slice-known .given);
       list = p .1;
       ess = p .2;
-      room = omega (arith, row-ends (a .k) (decode (a .s .now) .points) (a .cells .now) (p .4) refl);
-      known = p .3;
+      rests = rests-below (a .k) (p .0 .plannable .ranges) (p .0 .counts .tasks) (essential-allowed (decode (a .s .now)) (a .k) (p .2))
+          (omega (arith, row-ends (a .k) (decode (a .s .now) .points) (a .cells .now) (p .4) refl)) (p .3);
     }
 
 -- what the code has once the doors are gathered
 holds : (c : tie.After-gather) →
     let a = entered (begun (c .before)) .args in
     let l = c .gather .last .1 .1 .1 .1 .1 .1 in
-    Holding (decode (a .s .now)) (a .k) (a .cells .now) (c .before .before .before .before .before .before .before .load .result) (c .gather .result)
+    Holding (decode (a .s .now)) (a .k) (a .cells .now) (restRows (decode (a .s .now) .points) (a .k)) (c .before .before .before .before .before .before .before .load .result) (c .gather .result)
     (l .0) (l .1 .0) (l .1 .1 .0)
 holds c =
     let r = c .before .before .before .before .before .before in
-    hold (is-open (begun (c .before))) (r .rest-rows .ensures) _ _ _ (r .before .load .ensures) (c .gather .ensures)
+    hold (is-open (begun (c .before))) (rows-are _ (entered (begun (c .before)) .pre .0) (r .rest-rows .ensures)) _ _ _ (r .before .load .ensures) (c .gather .ensures)
 
 -- ---- the needs
 
 load-requires : tie.Need-load-requires
-load-requires c κs = (entered c .pre .0 .view, load-asks (is-open c))
+load-requires c κs = let p = entered c .pre in (p .0 .view, load-asks (p .0) (p .1) (p .2))
 
 gather-requires : tie.Need-gather-requires
-gather-requires c κs = gather-asks (is-open (begun c)) (c .before .before .before .before .before .rest-rows .ensures)
+gather-requires c κs =
+    gather-asks (is-open (begun c)) (rows-are _ (entered (begun c) .pre .0) (c .before .before .before .before .before .rest-rows .ensures))
 
 mul-from : tie.Need-mul-from
 mul-from c = omega (arith, small (begun (c .before .before .before .before .before)))

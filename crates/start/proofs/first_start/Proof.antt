@@ -2,17 +2,17 @@
 use Rattle.model.proofs.Basics.{_≡_, ⊎-elim, _-_, _≤_, arith, needs}
 use Rattle.model.specs.{decode}
 use Rattle.view.proofs.Counted.{starts-are}
-use Rattle.planner.specs.Choosing.{startCost}
-use Rattle.planner.proofs.Starting.{BestBelow, best-one, best-next, best-same, best-of-all}
-use Rattle.planner.proofs.first_start.Statement.{statement}
-use Rattle.planner.proofs.first_start.Tie as tie
+use Rattle.start.specs.Choosing.{startCost}
+use Rattle.start.proofs.Starting.{BestBelow, best-one, best-next, best-same, best-of-all}
+use Rattle.start.proofs.first_start.Statement.{statement}
+use Rattle.start.proofs.first_start.Tie as tie
 
 abbrev Inv-loop : tie.InvT-loop
-Inv-loop s v cells starts best₀ least₀ i₀ best least i =
-    (starts ≡ decode s .starts) × (1 ≤ i) × (i ≤ starts) × BestBelow (startCost (decode s) cells) i best least
+Inv-loop s v row starts best₀ least₀ i₀ best least i =
+    (starts ≡ decode s .starts) × (1 ≤ i) × (i ≤ starts) × BestBelow (startCost (decode s) row) i best least
 
 abbrev μ-loop : tie.MeasureT-loop
-μ-loop s v cells starts best₀ least₀ i₀ best least i = starts - i
+μ-loop s v row starts best₀ least₀ i₀ best least i = starts - i
 
 loop-holds : tie.Need-loop-holds Inv-loop μ-loop
 loop-holds c =
