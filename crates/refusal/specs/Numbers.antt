@@ -1,7 +1,7 @@
--- Document 01's number for each refusal (01, Numbers a call can answer with). Assumes nothing.
+-- The number of each refusal (01, Numbers a call can answer with; 02, Req 01 for 22). Assumes nothing.
 use Prim.Native.Nat.{ℕ}
 use Rattle.refusal.specs.declared.Refusal.{Refusal}
-use Rattle.refusal.specs.declared.Refusal.the-variants.{TooShort, WrongKind, WrongEntries, WrongPlaces, OutOfRange, NoDoor, TooLight, NoOrder, FewCells, ShortBuffer, IllFormed, NotInSheet, DoneTwice, ReceiverFirst, WrongCost}
+use Rattle.refusal.specs.declared.Refusal.the-variants.{TooShort, WrongKind, WrongEntries, WrongPlaces, OutOfRange, NoDoor, TooLight, NoOrder, FewCells, ShortBuffer, ShortLayer, IllFormed, NotInSheet, DoneTwice, ReceiverFirst, WrongCost}
 
 -- the number of a refusal
 abbrev pub numberOf : Refusal → ℕ
@@ -15,6 +15,7 @@ numberOf TooLight = 16
 numberOf NoOrder = 17
 numberOf FewCells = 20
 numberOf ShortBuffer = 21
+numberOf ShortLayer = 22
 numberOf IllFormed = 30
 numberOf NotInSheet = 31
 numberOf DoneTwice = 32

@@ -2,7 +2,7 @@
 ghost use mathlib.Core.Path.{_≡_};
 ghost use Rattle.refusal.specs.Numbers.{numberOf};
 
-// Why a call is refused: a variant for each number of document 01.
+// Why a call is refused: a variant for each number of documents 01 and 02.
 pub enum Refusal {
     TooShort,
     WrongKind,
@@ -14,6 +14,7 @@ pub enum Refusal {
     NoOrder,
     FewCells,
     ShortBuffer,
+    ShortLayer,
     IllFormed,
     NotInSheet,
     DoneTwice,
@@ -21,7 +22,7 @@ pub enum Refusal {
     WrongCost,
 }
 
-// Document 01's number of a refusal.
+// The number of a refusal.
 pub fn number_of(r: Refusal) -> u32
     ensures { λ n. ⌜ n ≡ numberOf r ⌝ }
 {
@@ -36,6 +37,7 @@ pub fn number_of(r: Refusal) -> u32
         Refusal::NoOrder => 17,
         Refusal::FewCells => 20,
         Refusal::ShortBuffer => 21,
+        Refusal::ShortLayer => 22,
         Refusal::IllFormed => 30,
         Refusal::NotInSheet => 31,
         Refusal::DoneTwice => 32,

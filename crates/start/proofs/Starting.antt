@@ -35,6 +35,13 @@ pub best-of-all : (S : Sheet) (row : List ℕ) {i best least : ℕ} → BestBelo
 unfolding firstStart
 best-of-all S row h e = sym (h .first) ∙ ap (λ (n : ℕ). firstLeast (startCost S row) (passingBelow n (λ s. true))) e
 
+-- what is chosen is one of the starts
+pub chosen-below : (S : Sheet) (row : List ℕ) {s : ℕ} → some s ≡ firstStart S row → s < S .starts
+unfolding firstStart
+chosen-below S row {s} e =
+    let x : FirstOf (startCost S row) (λ s. true) (S .starts) s = rw (sym e) at (scan (startCost S row) (λ s. true) (S .starts)) in
+    x .below
+
 -- ---- the row of the full list
 
 -- what the whole round costs from start s
@@ -46,11 +53,6 @@ module _ (S : Sheet) (row : List ℕ) (shows : (s : ℕ) → s < S .starts → g
   pub first-of-round : firstLeast (roundFrom S) (passingBelow (S .starts) (λ s. true)) ≡ some s
   unfolding firstStart startCost
   first-of-round = sym (first-cong (startCost S row) _ (passingBelow (S .starts) (λ s. true)) (all-flat _ (S .starts) _ (λ s l. (shows s l, tt)))) ∙ sym chosen
-
-  pub start-below : s < S .starts
-  start-below =
-      let x : FirstOf (roundFrom S) (λ s. true) (S .starts) s = rw first-of-round at (scan (roundFrom S) (λ s. true) (S .starts)) in
-      x .below
 
   -- and the cheapest plan starts there, and costs what the row shows there
   abbrev pub routeThere : List ℕ

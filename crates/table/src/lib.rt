@@ -29,7 +29,7 @@ pub fn rest_rows(points: u16, k: u32) -> [usize; MAX_TASKS]
 }
 
 // Whether list k is essential: not empty and, for each pair, with the receiver whenever it has the sender.
-fn essential(s: &[u8], v: View, k: u32) -> bool
+pub fn essential(s: &[u8], v: View, k: u32) -> bool
     requires { ⌜ Viewed (now s) v ⌝ }
     ensures { λ r. ⌜ r ≡ essential (decode (now (s .entry))) k ⌝ }
 {
@@ -50,7 +50,7 @@ fn essential(s: &[u8], v: View, k: u32) -> bool
 }
 
 // Writes the row of the empty list: the end costs.
-fn end_row(s: &[u8], v: View, out: &mut [u64])
+pub fn end_row(s: &[u8], v: View, out: &mut [u64])
     requires { ⌜ Viewed (now s) v × (length (now out) ≡ decode (now s) .points) ⌝ }
     ensures { λ _. ⌜ now (out .exit) ≡ mapBelow (decode (now (s .entry)) .points) (decode (now (s .entry)) .endCost) ⌝ }
 {

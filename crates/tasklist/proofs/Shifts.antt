@@ -25,7 +25,7 @@ not-listed w K j l h = rw (le-ltb, bit-above w j K l h)
 -- ---- a task joined, a task struck off
 
 -- 1 << j
-one-bit : (w j : ℕ) → j < w → 1 * 2 ^ j % 2 ^ w ≡ 2 ^ j
+pub one-bit : (w j : ℕ) → j < w → 1 * 2 ^ j % 2 ^ w ≡ 2 ^ j
 one-bit w j l = omega (arith, shl-exact {a = 1} 1 j w (omega arith) (omega arith))
 
 -- K & (1 << j)
@@ -101,7 +101,7 @@ met w L K h =
 -- ---- counts
 
 -- count_ones(K)
-ones-sum : (w K : ℕ) → K < 2 ^ w → ones K ≡ sumBelow w (bit K)
+pub ones-sum : (w K : ℕ) → K < 2 ^ w → ones K ≡ sumBelow w (bit K)
 unfolding ones
 ones-sum zero K h = rw (lt-one h)
 ones-sum (suc w) K h =

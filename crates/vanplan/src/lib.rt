@@ -1,13 +1,16 @@
 // The C interface, which include/vanplan.h documents. Each call returns 0, or the refusal's number with nothing written.
 ghost use mathlib.Core.Path.{_≡_};
 ghost use lib.ListN.{length};
-ghost use Rattle.model.specs.Answer.{status, placedNumber};
+ghost use Rattle.model.specs.Answer.{status, placed, placedNumber};
 ghost use Rattle.model.specs.Faults.{readSheet, tasksLeft, pointsLeft};
 ghost use Rattle.model.specs.PlanLayout.{writePlan, readPlan, startLeft, doorsLeft, costLeft};
 ghost use Rattle.model.specs.Planning.{plan};
 ghost use Rattle.model.specs.Validating.{validate};
+ghost use Rattle.price.specs.Pricing.{price, LayersAfter, rowPlace, priceCost, priceStart, rowLayer, rowCells};
 use plan::Writing;
 use planner::Planning;
+use price::Fitting;
+use price::Pricing;
 use sheet::Reading;
 use validate::Validation;
 
@@ -113,5 +116,55 @@ pub extern "C" fn vanplan_validate(sheet: &[u8], plan: &[u8], cost: &mut u64) ->
             OK
         }
         Validation::Refused(refusal) => refusal::number_of(refusal),
+    }
+}
+
+// Prices a sheet in two layers of cells: the least cost and its first start.
+#[no_mangle]
+pub extern "C" fn vanplan_price(
+    sheet: &[u8],
+    even: &mut [u64],
+    odd: &mut [u64],
+    cost: &mut u64,
+    start: &mut u16,
+) -> u32
+    ensures returned { λ r. ⌜ r ≡ status (price (now (sheet .entry)) (length (now (even .entry))) (length (now (odd .entry)))) ⌝ }
+    ensures layers { λ r. ⌜ LayersAfter (now (sheet .entry)) (now (even .entry)) (now (odd .entry)) (now (even .exit)) (now (odd .exit)) ⌝ }
+    ensures cost { λ r. ⌜ now (cost .exit) ≡ placed priceCost (price (now (sheet .entry)) (length (now (even .entry))) (length (now (odd .entry)))) (now (cost .entry)) ⌝ }
+    ensures start { λ r. ⌜ now (start .exit) ≡ placed priceStart (price (now (sheet .entry)) (length (now (even .entry))) (length (now (odd .entry)))) (now (start .entry)) ⌝ }
+{
+    let pricing = price::price(sheet, even, odd);
+    match pricing {
+        Pricing::Priced(quote) => {
+            *cost = quote.cost;
+            *start = quote.start;
+            OK
+        }
+        Pricing::Refused(refusal) => refusal::number_of(refusal),
+    }
+}
+
+// Which layer begins with the row of the full list, 0 for the even one and 1 for the odd one, and of how many cells that row is.
+#[no_mangle]
+pub extern "C" fn vanplan_price_row<'a>(
+    sheet: &[u8],
+    even: &'a [u64],
+    odd: &'a [u64],
+    layer: &mut usize,
+    cells: &mut usize,
+) -> u32
+    ensures returned { λ r. ⌜ r ≡ status (price (now (sheet .entry)) (length (now (even .entry))) (length (now (odd .entry)))) ⌝ }
+    ensures layer { λ r. ⌜ now (layer .exit) ≡ placed rowLayer (rowPlace (now (sheet .entry)) (length (now (even .entry))) (length (now (odd .entry)))) (now (layer .entry)) ⌝ }
+    ensures cells { λ r. ⌜ now (cells .exit) ≡ placed rowCells (rowPlace (now (sheet .entry)) (length (now (even .entry))) (length (now (odd .entry)))) (now (cells .entry)) ⌝ }
+{
+    let fitting = price::fit(sheet, even.len(), odd.len());
+    match fitting {
+        Fitting::Fits(v) => {
+            let row = price::row(sheet, even, odd);
+            *layer = v.tasks as usize % 2;
+            *cells = row.len();
+            OK
+        }
+        Fitting::Refused(refusal) => refusal::number_of(refusal),
     }
 }

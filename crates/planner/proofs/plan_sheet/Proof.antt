@@ -7,7 +7,7 @@ use Rattle.view.specs.Views.{Viewed}
 use Rattle.view.proofs.Counted.{tasks-are, points-are}
 use Rattle.complete.specs.Completed.{completed}
 use Rattle.start.specs.Choosing.{firstStart}
-use Rattle.start.proofs.Starting.{roundFrom, start-below}
+use Rattle.start.proofs.Starting.{roundFrom, chosen-below}
 use Rattle.planner.proofs.Sheets.{Roomy, in-parts, few, few-cells, short-buffer, viewed, full-is, fillable, row-within}
 use Rattle.planner.proofs.Sheets.{startable, row-shows, completable}
 use Rattle.planner.proofs.Carried.{carried-out}
@@ -80,7 +80,7 @@ start-is : (c : tie.After-first-start) → some (c .first-start .result) ≡ fir
 start-is c = c .first-start .ensures
 
 start-in : (c : tie.After-first-start) → c .first-start .result < decode (entered (past (full-of c)) .args .s .now) .starts
-start-in c = start-below (decode (entered (past (full-of c)) .args .s .now)) (rowThere (full-of c)) (shows (full-of c)) (start-is c)
+start-in c = chosen-below _ _ (start-is c)
 
 -- ---- the needs
 

@@ -1,6 +1,6 @@
 -- The part of the cells that is lent for the row is that of the list. The list is open and the cells below it show what they should, so what is gathered from
 -- them gives its costs to go. Assumes nothing.
-use Rattle.model.proofs.Basics.{refl, sym, _+_, _*_, _^_, _≤_, _<_, arith, length, length-take-le, needs}
+use Rattle.model.proofs.Basics.{_≡_, sym, ap, ℕ, _+_, _*_, _^_, _≤_, _<_, arith, length, length-take-le, needs}
 use Rattle.model.specs.{decode, costToGo}
 use Rattle.model.proofs.Tools.Elements.{are-bytes}
 use Rattle.view.proofs.Counted.{points-are}
@@ -22,11 +22,15 @@ begun c = c .before .before .before .before .before .before .before
 abbrev gathered : tie.After-struct-known2 → tie.After-gather
 gathered c = c .before .before .before .before .before
 
--- the row is among the cells
+-- the row is among the cells, and from where the code takes it
+room : (c : tie.Start) → let P = decode (c .args .s .now) .points in c .args .k * P + P ≤ length (c .args .cells .now)
+room c = omega (arith, c .pre .4)
+
+from-is : (c : tie.Start) → c .args .k * c .args .v .points ≡ c .args .k * decode (c .args .s .now) .points
+from-is c = ap (λ (n : ℕ). c .args .k * n) (points-are (c .pre .0 .view))
+
 held : (c : tie.After-slice-known) → let a = entered c .args in a .k * a .v .points + a .v .points ≤ length (a .cells .now)
-held c =
-    let a = entered c .args in
-    row-ends (a .k) (decode (a .s .now) .points) (a .cells .now) (entered c .pre .4) (points-are (entered c .pre .0 .view))
+held c = let s = entered c in row-ends _ _ (s .args .cells .now) (room s) (from-is s) (points-are (s .pre .0 .view))
 
 small : (c : tie.After-slice-known) → let a = entered c .args in (a .k * a .v .points + a .v .points) * 8 < 2 ^ 64
 small c = omega (arith, held c)
@@ -43,7 +47,7 @@ is-open c =
       list = p .1;
       ess = p .2;
       rests = rests-below (a .k) (p .0 .plannable .ranges) (p .0 .counts .tasks) (essential-allowed (decode (a .s .now)) (a .k) (p .2))
-          (omega (arith, row-ends (a .k) (decode (a .s .now) .points) (a .cells .now) (p .4) refl)) (p .3);
+          (omega (arith, room (entered c))) (p .3);
     }
 
 -- what the code has once the doors are gathered
@@ -99,13 +103,13 @@ row-requires : tie.Need-row-requires
 row-requires c κs =
     let g = gathered (c .before .before .before) in
     let s = entered (begun (g .before)) in
-    (given (is-open (begun (g .before))) (holds g), row-length (s .args .k) _ (s .args .cells .now) (s .pre .4) (points-are (s .pre .0 .view)))
+    (given (is-open (begun (g .before))) (holds g), row-length _ _ _ (room s) (from-is s) (points-are (s .pre .0 .view)))
 
 returns : tie.Need-returns
 returns c =
     let g = gathered (c .before .before .before .before .before .before) in
     let s = entered (begun (g .before)) in
-    row-written (s .args .k) _ (s .args .cells .now) (s .pre .4) (points-are (s .pre .0 .view)) (costToGo (decode (s .args .s .now)) (s .args .k))
+    row-written _ _ _ (room s) (from-is s) (points-are (s .pre .0 .view)) (costToGo (decode (s .args .s .now)) (s .args .k))
     (row-of (is-open (begun (g .before))) (holds g) (c .before .before .row .ensures))
 
 pub list-row-spec : {M : Type 1} → statement M

@@ -1,0 +1,2 @@
+pub mod Pricing
+pub mod Answers
