@@ -11,6 +11,8 @@
  *
  *     vanplan_read        10, 11, 12, 13, 14, 15, 16, 17
  *     vanplan_plan        as vanplan_read, then 20, 21
+ *     vanplan_price       as vanplan_read, then 22
+ *     vanplan_price_row   as vanplan_read, then 22
  *     vanplan_validate    as vanplan_read, then 30, 31, 32, 33, 34
  *     vanplan_write_plan  12, 21
  *     vanplan_read_plan   12, 30
@@ -29,7 +31,7 @@
 extern "C" {
 #endif
 
-#define VANPLAN_VERSION "0.2.0"
+#define VANPLAN_VERSION "0.3.0"
 
 /* The bytes of the longest task sheet. A caller that reads one byte more sees that its input is longer. */
 #define VANPLAN_MAX_SHEET_BYTES 9638
@@ -38,13 +40,23 @@ extern "C" {
 #define VANPLAN_MAX_PLAN_BYTES 56
 /* The work cells that are enough for planning any sheet: 2 MiB. */
 #define VANPLAN_MAX_CELLS 262144
+/* The cells of each of the two layers that are enough for pricing any sheet: twice 462 KiB. */
+#define VANPLAN_MAX_LAYER_CELLS 59136
 
 /* The work cells that planning a sheet of so many tasks and points needs, 2^N times P, and the bytes of its plan. For
  * the numbers that vanplan_read gives. */
 #define VANPLAN_CELLS(tasks, points) (((size_t)1 << (tasks)) * (size_t)(points))
 #define VANPLAN_PLAN_BYTES(tasks) (32 + 2 * (size_t)(tasks))
 
-/* The refusals, by number. N is the number of tasks and P that of points. */
+/* The cells of each of the two layers that pricing such a sheet needs, B times P: B is the largest number of lists of
+ * tasks of one size, of twelve tasks 924, the lists of six. The argument tasks is evaluated more than once. */
+#define VANPLAN_LAYER_CELLS(tasks, points) (VANPLAN_MOST_LISTS(tasks) * (size_t)(points))
+#define VANPLAN_MOST_LISTS(tasks)                                                                                       \
+    ((size_t)((tasks) < 2 ? 1 : (tasks) < 3 ? 2 : (tasks) < 4 ? 3 : (tasks) < 5 ? 6 : (tasks) < 6 ? 10                  \
+              : (tasks) < 7 ? 20 : (tasks) < 8 ? 35 : (tasks) < 9 ? 70 : (tasks) < 10 ? 126 : (tasks) < 11 ? 252        \
+              : (tasks) < 12 ? 462 : 924))
+
+/* The refusals, by number. N is the number of tasks, P that of points, and B as above. */
 enum vanplan_refusal {
     /* of a task sheet; 12 also where a plan is to have no task or more than 12, or more tasks than doors */
     VANPLAN_TOO_SHORT = 10,     /* shorter than 46 bytes */
@@ -56,9 +68,10 @@ enum vanplan_refusal {
     VANPLAN_TOO_LIGHT = 16,     /* the end load plus all negative load changes is below zero */
     VANPLAN_NO_ORDER = 17,      /* no order of the tasks keeps every pair */
 
-    /* of the room for a plan */
+    /* of the room for a plan, and for a price */
     VANPLAN_FEW_CELLS = 20,    /* fewer than 2^N times P work cells */
     VANPLAN_SHORT_BUFFER = 21, /* the buffer is shorter than 32 + 2 N bytes */
+    VANPLAN_SHORT_LAYER = 22,  /* either layer has fewer than B times P cells */
 
     /* of a plan */
     VANPLAN_ILL_FORMED = 30,     /* the length, or a byte before 22, is not as laid out for N tasks */
@@ -121,6 +134,36 @@ uint32_t vanplan_read(const uint8_t *sheet, size_t len, uint64_t *tasks, uint64_
  * as they were. Nothing of this depends on what cells and buf held before. */
 uint32_t vanplan_plan(const uint8_t *sheet, size_t len, uint64_t *cells, size_t ncells, uint8_t *buf, size_t buf_len,
                       uint64_t *cost);
+
+/* Prices a task sheet: finds the cost and the start of its cheapest plan, without the plan. From three tasks on this takes
+ * fewer cells than planning.
+ *
+ *     sheet, len   in      the bytes of the sheet
+ *     even, neven  in out  the layer for lists of an even number of tasks, VANPLAN_LAYER_CELLS(N, P) cells or more
+ *     odd, nodd    in out  the layer for lists of an odd number of tasks, as many cells or more
+ *     cost         out     the cost of the plan that vanplan_plan writes
+ *     start        out     the start of that plan
+ *
+ * Returns 0, or refuses the sheet with 10 to 17 and the layers with 22.
+ * 0: the first P cells of one layer, of even if N is even and of odd if it is odd, are the cost to finish the whole round
+ * from each point: what vanplan_plan leaves in cells[(2^N - 1) * P + p]. The cells of each layer from B times P on are as
+ * they were. What all other cells hold is left open, since the lists of one size are written over those of two tasks
+ * fewer: cell i is as it was, or it is the cost to finish from point i % P of some list that the pairs allow and the
+ * layer is for, of whose size i / P lists are smaller numbers. Nothing else depends on what the layers held before. */
+uint32_t vanplan_price(const uint8_t *sheet, size_t len, uint64_t *even, size_t neven, uint64_t *odd, size_t nodd,
+                       uint64_t *cost, uint16_t *start);
+
+/* Tells where in the two layers vanplan_price leaves the cost to finish the whole round from each point.
+ *
+ *     sheet, len   in   the bytes of the sheet
+ *     even, neven  in   the layers that it is priced in. Only the numbers of their cells count, so this may be asked
+ *     odd, nodd    in   before pricing too
+ *     layer        out  0 for the even layer, 1 for the odd one
+ *     cells        out  P: the costs are the first P cells of that layer
+ *
+ * Returns 0, or the number that vanplan_price refuses this sheet and these layers with. */
+uint32_t vanplan_price_row(const uint8_t *sheet, size_t len, const uint64_t *even, size_t neven, const uint64_t *odd,
+                           size_t nodd, size_t *layer, size_t *cells);
 
 /* Validates a plan, made by anyone, for a task sheet.
  *

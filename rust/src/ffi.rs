@@ -15,6 +15,28 @@ extern "C" {
         cost: *mut u64,
     ) -> u32;
 
+    pub fn vanplan_price(
+        sheet: *const u8,
+        len: usize,
+        even: *mut u64,
+        neven: usize,
+        odd: *mut u64,
+        nodd: usize,
+        cost: *mut u64,
+        start: *mut u16,
+    ) -> u32;
+
+    pub fn vanplan_price_row(
+        sheet: *const u8,
+        len: usize,
+        even: *const u64,
+        neven: usize,
+        odd: *const u64,
+        nodd: usize,
+        layer: *mut usize,
+        cells: *mut usize,
+    ) -> u32;
+
     pub fn vanplan_validate(
         sheet: *const u8,
         len: usize,

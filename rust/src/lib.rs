@@ -13,11 +13,12 @@
 //! ```
 //!
 //! - [`plan`] and [`Planner`], which keeps its memory from round to round, find the cheapest plan.
+//! - [`price`](price()) and [`Pricer`] find what that plan costs and its start, without the plan and in less memory.
 //! - [`read`] tells a sheet's numbers of tasks and points, or why it is none.
 //! - [`validate`], or [`Plan::validate`], says whether a plan does every task once, keeps every pair, and costs what it
 //!   states.
 //! - [`Plan::to_bytes`] and [`Plan::from_bytes`] write and read a plan.
-//! - [`raw`] has the five calls of the C interface, over memory that the caller lends.
+//! - [`raw`] has the seven calls of the C interface, over memory that the caller lends.
 //!
 //! Every call answers any bytes, keeps nothing from one call to the next and may be made from several threads at once;
 //! what it refuses, it refuses with a [`Refusal`]. Nothing panics, unless another library is linked than the one of this
@@ -26,18 +27,23 @@
 #![deny(missing_docs)]
 #![deny(unsafe_op_in_unsafe_fn)]
 
+mod cells;
 mod ffi;
 mod limits;
 mod plan;
 mod planner;
+mod price;
 pub mod raw;
 mod refusal;
 mod sheet;
 mod validate;
 
-pub use limits::{MAX_CELLS, MAX_PLAN_BYTES, MAX_PLAN_DOORS, MAX_SHEET_BYTES, VERSION};
+pub use limits::{
+    MAX_CELLS, MAX_LAYER_CELLS, MAX_PLAN_BYTES, MAX_PLAN_DOORS, MAX_SHEET_BYTES, VERSION,
+};
 pub use plan::Plan;
 pub use planner::{plan, Planner};
+pub use price::{price, Price, Pricer};
 pub use refusal::Refusal;
 pub use sheet::{read, Counts};
 pub use validate::validate;

@@ -12,6 +12,9 @@ pub const MAX_PLAN_BYTES: usize = plan_bytes(MAX_PLAN_DOORS);
 /// The work cells that are enough for planning any sheet, which has at most 64 points.
 pub const MAX_CELLS: usize = cells(MAX_PLAN_DOORS, 64);
 
+/// The cells of each of the two layers that are enough for pricing any sheet.
+pub const MAX_LAYER_CELLS: usize = layer_cells(MAX_PLAN_DOORS, 64);
+
 /// The version of this package, which is that of `include/vanplan.h`.
 pub const VERSION: &str = env!("CARGO_PKG_VERSION");
 
@@ -21,6 +24,28 @@ pub const fn cells(tasks: usize, points: usize) -> usize {
         return usize::MAX;
     }
     (1_usize << tasks).saturating_mul(points)
+}
+
+/// The cells of each layer that pricing needs, held to 64 bits too.
+pub const fn layer_cells(tasks: usize, points: usize) -> usize {
+    most_lists(tasks).saturating_mul(points)
+}
+
+/// The largest number of lists of tasks of one size: the binomial of all tasks over half of them.
+const fn most_lists(tasks: usize) -> usize {
+    /// The most tasks for which it has 64 bits.
+    const MOST: usize = 67;
+    if tasks > MOST {
+        return usize::MAX;
+    }
+    let half = tasks / 2;
+    let (mut lists, mut size) = (1, 0);
+    while size < half {
+        size += 1;
+        // The binomial of tasks - half + size over size.
+        lists = lists * (tasks - half + size) as u128 / size as u128;
+    }
+    lists as usize
 }
 
 /// The bytes of a plan, held to 64 bits too.
@@ -40,5 +65,23 @@ mod tests {
         }
         assert_eq!((plan_bytes(0), plan_bytes(12)), (32, 56));
         assert_eq!(plan_bytes(usize::MAX / 2), usize::MAX);
+    }
+
+    #[test]
+    fn layers() {
+        let due = [1, 1, 2, 3, 6, 10, 20, 35, 70, 126, 252, 462, 924];
+        for (tasks, lists) in due.into_iter().enumerate() {
+            assert_eq!(
+                (layer_cells(tasks, 1), layer_cells(tasks, 64)),
+                (lists, 64 * lists)
+            );
+            // As many as planning takes for one and two tasks, and fewer from three on.
+            let (both, planning) = (2 * layer_cells(tasks, 5), cells(tasks, 5));
+            assert!(tasks == 0 || (both == planning) == (tasks < 3) && both <= planning);
+        }
+        assert_eq!(layer_cells(67, 1), 14_226_520_737_620_288_370);
+        for (tasks, points) in [(67, 2), (68, 1), (60, 1_000), (usize::MAX, 1)] {
+            assert_eq!(layer_cells(tasks, points), usize::MAX);
+        }
     }
 }

@@ -1,5 +1,6 @@
 //! Planning a task sheet: the cheapest plan, and the cost to finish from every point.
 
+use crate::cells::renew;
 use crate::limits::MAX_PLAN_BYTES;
 use crate::plan::Plan;
 use crate::raw;
@@ -75,15 +76,8 @@ impl Planner {
         Plan::from_bytes(&bytes[..counts.plan_bytes()])
     }
 
-    /// Neither doubles the cells, as a list that grows would, nor holds the old ones meanwhile.
     fn make_room(&mut self, counts: Counts) {
-        let needed = counts.cells();
-        self.cells.clear();
-        if self.cells.capacity() < needed {
-            self.cells = Vec::new();
-            self.cells.reserve_exact(needed);
-        }
-        self.cells.resize(needed, LEFT);
+        renew(&mut self.cells, counts.cells(), LEFT);
         self.points = counts.points;
     }
 

@@ -1,9 +1,12 @@
-//! The five calls of the C interface, over memory that the caller lends: no allocation, and nothing kept.
+//! The seven calls of the C interface, over memory that the caller lends: no allocation, and nothing kept.
 //!
 //! Each returns [`ACCEPTED`], or the number of a refusal, which [`Refusal::number`](crate::Refusal::number) has for each;
-//! where it refuses, everything that was lent is as it was.
+//! [`price`] and [`price_row`] return what they found, or the refusal. Where a call refuses, everything that was lent is
+//! as it was.
 
 use crate::ffi;
+use crate::price::Price;
+use crate::refusal::{answered, Refusal};
 
 /// What a call returns that does not refuse.
 pub const ACCEPTED: u32 = 0;
@@ -57,6 +60,79 @@ pub fn plan(sheet: &[u8], cells: &mut [u64], buf: &mut [u8], cost: &mut u64) -> 
             cost,
         )
     }
+}
+
+/// Prices a task sheet: the cost and the start of its cheapest plan. The layer of N's parity, `even` or `odd`, then begins
+/// with the cost to finish the whole round from each point, which [`price_row`] returns; the cells of each layer from
+/// [`Counts::layer_cells`](crate::Counts::layer_cells) on stay, and what the others hold is left open.
+///
+/// # Errors
+///
+/// 10 to 17 for the sheet, then [`Refusal::ShortLayer`], 22, if either layer has fewer cells than that.
+///
+/// ```
+/// use vanplan::{raw, Price, Refusal};
+///
+/// let sheet = std::fs::read("../examples/a.sheet")?;
+/// let (mut even, mut odd) = ([0; 6], [0; 6]);
+/// assert_eq!(raw::price(&sheet, &mut even, &mut odd)?, Price { cost: 92, start: 0 });
+/// assert_eq!(even[..3], [92, 68, 90]); // from each of the three points
+/// let refused = raw::price(&sheet, &mut even, &mut odd[..5]);
+/// assert_eq!(refused, Err(Refusal::ShortLayer));
+/// # Ok::<(), Box<dyn std::error::Error>>(())
+/// ```
+pub fn price(sheet: &[u8], even: &mut [u64], odd: &mut [u64]) -> Result<Price, Refusal> {
+    let (mut cost, mut start) = (0, 0);
+    // SAFETY: each pointer with a length is that of a slice; the sheet is only read, and the four others are exclusive
+    // references to different places.
+    answered(unsafe {
+        ffi::vanplan_price(
+            sheet.as_ptr(),
+            sheet.len(),
+            even.as_mut_ptr(),
+            even.len(),
+            odd.as_mut_ptr(),
+            odd.len(),
+            &mut cost,
+            &mut start,
+        )
+    })?;
+    Ok(Price { cost, start })
+}
+
+/// The part of the layers that, once [`price`] has filled them, has the cost to finish the whole round from each point: the
+/// first P cells of `even` if N is even, and of `odd` if it is odd.
+///
+/// # Errors
+///
+/// What [`price`] refuses this sheet and layers of these lengths with.
+///
+/// ```
+/// use vanplan::raw;
+///
+/// let sheet = std::fs::read("../examples/a.sheet")?;
+/// let (mut even, mut odd) = ([0; 6], [0; 6]);
+/// raw::price(&sheet, &mut even, &mut odd)?;
+/// assert_eq!(raw::price_row(&sheet, &even, &odd)?, [92, 68, 90]);
+/// # Ok::<(), Box<dyn std::error::Error>>(())
+/// ```
+pub fn price_row<'a>(sheet: &[u8], even: &'a [u64], odd: &'a [u64]) -> Result<&'a [u64], Refusal> {
+    let (mut layer, mut cells) = (0, 0);
+    // SAFETY: each pointer with a length is that of a slice, which the call only reads, and the two others are exclusive
+    // references to different cells.
+    answered(unsafe {
+        ffi::vanplan_price_row(
+            sheet.as_ptr(),
+            sheet.len(),
+            even.as_ptr(),
+            even.len(),
+            odd.as_ptr(),
+            odd.len(),
+            &mut layer,
+            &mut cells,
+        )
+    })?;
+    Ok(&[even, odd][layer][..cells])
 }
 
 /// Validates a plan for a task sheet: sets `cost` to its cost. Refused: 10 to 17 for the sheet, then 30 to 34 for the

@@ -46,6 +46,8 @@ pub enum Refusal {
     FewCells,
     /// 21: the buffer for the plan is shorter than 32 + 2N bytes.
     ShortBuffer,
+    /// 22: a layer for pricing has fewer than B times P cells, B the largest number of lists of tasks of one size.
+    ShortLayer,
     /// 30: the bytes are no plan of as many tasks as the sheet has.
     IllFormed,
     /// 31: a start or a door is not in the sheet.
@@ -59,7 +61,7 @@ pub enum Refusal {
 }
 
 impl Refusal {
-    const ALL: [Refusal; 15] = [
+    const ALL: [Refusal; 16] = [
         Refusal::TooShort,
         Refusal::WrongKind,
         Refusal::WrongEntries,
@@ -70,6 +72,7 @@ impl Refusal {
         Refusal::NoOrder,
         Refusal::FewCells,
         Refusal::ShortBuffer,
+        Refusal::ShortLayer,
         Refusal::IllFormed,
         Refusal::NotInSheet,
         Refusal::DoneTwice,
@@ -96,6 +99,7 @@ impl Refusal {
             Refusal::NoOrder => (17, "no order of the tasks keeps every pair"),
             Refusal::FewCells => (20, "fewer than 2^N times P work cells are lent"),
             Refusal::ShortBuffer => (21, "the buffer for the plan is shorter than 32 + 2N bytes"),
+            Refusal::ShortLayer => (22, "a layer for pricing has fewer than B times P cells"),
             Refusal::IllFormed => (30, "the bytes are no plan of as many tasks as the sheet has"),
             Refusal::NotInSheet => (31, "a start or a door is not in the sheet"),
             Refusal::DoneTwice => (32, "a task is done twice"),
@@ -163,7 +167,7 @@ mod tests {
     #[test]
     fn every_number_has_its_refusal() {
         assert_eq!(answered(ACCEPTED), Ok(()));
-        let numbers = (10..=17).chain(20..=21).chain(30..=34);
+        let numbers = (10..=17).chain(20..=22).chain(30..=34);
         let answers: Vec<Refusal> = numbers.filter_map(|n| answered(n).err()).collect();
         assert_eq!(answers, Refusal::ALL);
     }

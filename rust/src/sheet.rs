@@ -3,7 +3,7 @@
 use crate::refusal::{answered, Refusal};
 use crate::{limits, raw};
 
-/// The numbers of tasks and points of a sheet that reads, which tell how much room planning it takes.
+/// The numbers of tasks and points of a sheet that reads, which tell how much room planning and pricing it take.
 #[derive(Clone, Copy, Debug, PartialEq, Eq, Hash)]
 pub struct Counts {
     /// N, the number of tasks, 1 to 12.
@@ -21,6 +21,17 @@ impl Counts {
     /// ```
     pub const fn cells(self) -> usize {
         limits::cells(self.tasks, self.points)
+    }
+
+    /// The cells of each of the two layers that pricing needs, B times P, where B is the largest number of lists of tasks
+    /// of one size: 924 of twelve tasks. It stops at `usize::MAX` too.
+    ///
+    /// ```
+    /// let counts = vanplan::Counts { tasks: 12, points: 64 };
+    /// assert_eq!((2 * counts.layer_cells(), counts.cells()), (118_272, 262_144));
+    /// ```
+    pub const fn layer_cells(self) -> usize {
+        limits::layer_cells(self.tasks, self.points)
     }
 
     /// The bytes of a plan, 32 + 2N. It stops at `usize::MAX` too.

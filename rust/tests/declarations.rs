@@ -2,7 +2,9 @@
 //! exports: the same calls, with the same types and names of arguments. And the header's limits are the package's.
 
 use std::collections::BTreeMap;
-use vanplan::{MAX_CELLS, MAX_PLAN_BYTES, MAX_PLAN_DOORS, MAX_SHEET_BYTES, VERSION};
+use vanplan::{
+    MAX_CELLS, MAX_LAYER_CELLS, MAX_PLAN_BYTES, MAX_PLAN_DOORS, MAX_SHEET_BYTES, VERSION,
+};
 
 const EXPORTS: &str = include_str!("../../crates/vanplan/src/lib.rt");
 const HEADER: &str = include_str!("../../include/vanplan.h");
@@ -132,6 +134,7 @@ fn the_exports_are_found() {
     assert_eq!(exports.len(), count, "{:?}", exports.keys());
     let lists = |call: &str| exports[call].iter().filter(|a| a.1.is_none()).count();
     assert_eq!(lists("vanplan_plan"), 3);
+    assert_eq!(lists("vanplan_price_row"), 3);
     assert_eq!(exports["vanplan_read"].len(), 5, "with the answer");
 }
 
@@ -184,6 +187,8 @@ fn a_slip_in_the_header_shows() {
         ("uint64_t *", "uint32_t *"),
         ("uint16_t *", "uint64_t *"),
         ("const uint8_t *", "uint8_t *"),
+        ("const uint64_t *", "uint64_t *"),
+        ("*even", "*odd"),
         ("size_t *", "uint32_t *"),
         ("uint64_t cost", "uint32_t cost"),
         ("size_t len", "uint32_t len"),
@@ -200,6 +205,8 @@ fn a_slip_in_the_package_shows() {
         ("*mut u64", "*mut u32"),
         ("*mut u16", "*mut u64"),
         ("*const u8", "*mut u8"),
+        ("*const u64", "*mut u64"),
+        ("*mut usize", "*mut u32"),
         (": usize", ": u32"),
         (": u64", ": u32"),
         ("-> u32", "-> u64"),
@@ -218,6 +225,7 @@ fn the_limits_are_the_same() {
         .collect();
     let limits = [
         ("MAX_CELLS", MAX_CELLS.to_string()),
+        ("MAX_LAYER_CELLS", MAX_LAYER_CELLS.to_string()),
         ("MAX_PLAN_BYTES", MAX_PLAN_BYTES.to_string()),
         ("MAX_PLAN_DOORS", MAX_PLAN_DOORS.to_string()),
         ("MAX_SHEET_BYTES", MAX_SHEET_BYTES.to_string()),
@@ -229,4 +237,6 @@ fn the_limits_are_the_same() {
     let document = (9_638, 12, 56, 4_096 * 64);
     let limits = (MAX_SHEET_BYTES, MAX_PLAN_DOORS, MAX_PLAN_BYTES, MAX_CELLS);
     assert_eq!(limits, document);
+    // Document 02's: 924 lists of six of twelve tasks.
+    assert_eq!(MAX_LAYER_CELLS, 924 * 64);
 }

@@ -3,11 +3,11 @@
 
 mod common;
 
-use common::tested::{JUDGING, PLANNING, READING, READING_A_PLAN, WRITING_A_PLAN};
+use common::tested::{JUDGING, PLANNING, PRICING, READING, READING_A_PLAN, WRITING_A_PLAN};
 use vanplan::{read, Refusal};
 
-/// The numbers of document 01 that the calls can answer with, and the name of each in C.
-const TABLE: [(u32, Refusal, &str); 15] = {
+/// The numbers of documents 01 and 02 that the calls can answer with, and the name of each in C.
+const TABLE: [(u32, Refusal, &str); 16] = {
     use Refusal::*;
     [
         (10, TooShort, "TOO_SHORT"),
@@ -20,6 +20,7 @@ const TABLE: [(u32, Refusal, &str); 15] = {
         (17, NoOrder, "NO_ORDER"),
         (20, FewCells, "FEW_CELLS"),
         (21, ShortBuffer, "SHORT_BUFFER"),
+        (22, ShortLayer, "SHORT_LAYER"),
         (30, IllFormed, "ILL_FORMED"),
         (31, NotInSheet, "NOT_IN_SHEET"),
         (32, DoneTwice, "DONE_TWICE"),
@@ -30,8 +31,7 @@ const TABLE: [(u32, Refusal, &str); 15] = {
 
 #[test]
 fn every_number_has_its_refusal() {
-    let of_a_plan = [20, 21].into_iter().chain(30..=34);
-    let due: Vec<u32> = (10..=17).chain(of_a_plan).collect();
+    let due: Vec<u32> = (10..=17).chain(20..=22).chain(30..=34).collect();
     assert_eq!(TABLE.map(|row| row.0)[..], due);
     for number in 0..100 {
         let row = TABLE.iter().find(|row| row.0 == number);
@@ -86,6 +86,8 @@ fn the_header_has_the_same_order() {
     for (call, first, order) in [
         ("vanplan_read", "", &READING[..]),
         ("vanplan_plan", "as vanplan_read, then ", &PLANNING),
+        ("vanplan_price", "as vanplan_read, then ", &PRICING),
+        ("vanplan_price_row", "as vanplan_read, then ", &PRICING),
         ("vanplan_validate", "as vanplan_read, then ", &JUDGING),
         ("vanplan_write_plan", "", &WRITING_A_PLAN),
         ("vanplan_read_plan", "", &READING_A_PLAN),

@@ -42,6 +42,28 @@ extern "C" {
         buf_len: usize,
         cost: *mut u64,
     ) -> u32;
+
+    fn vanplan_price(
+        sheet: *const u8,
+        len: usize,
+        even: *mut u64,
+        neven: usize,
+        odd: *mut u64,
+        nodd: usize,
+        cost: *mut u64,
+        start: *mut u16,
+    ) -> u32;
+
+    fn vanplan_price_row(
+        sheet: *const u8,
+        len: usize,
+        even: *const u64,
+        neven: usize,
+        odd: *const u64,
+        nodd: usize,
+        layer: *mut usize,
+        cells: *mut usize,
+    ) -> u32;
 }
 
 // SAFETY, of all that follows: a pointer with a length is that of a list, each other one is that of a number, and what
@@ -85,4 +107,28 @@ pub fn plan(sheet: &[u8], cells: &mut [u64], buf: &mut [u8], cost: &mut u64) -> 
     let (len, ncells, buf_len) = (sheet.len(), cells.len(), buf.len());
     let (sheet, cells, buf) = (sheet.as_ptr(), cells.as_mut_ptr(), buf.as_mut_ptr());
     unsafe { vanplan_plan(sheet, len, cells, ncells, buf, buf_len, cost) }
+}
+
+pub fn price(
+    sheet: &[u8],
+    even: &mut [u64],
+    odd: &mut [u64],
+    cost: &mut u64,
+    start: &mut u16,
+) -> u32 {
+    let (len, neven, nodd) = (sheet.len(), even.len(), odd.len());
+    let (sheet, even, odd) = (sheet.as_ptr(), even.as_mut_ptr(), odd.as_mut_ptr());
+    unsafe { vanplan_price(sheet, len, even, neven, odd, nodd, cost, start) }
+}
+
+pub fn price_row(
+    sheet: &[u8],
+    even: &[u64],
+    odd: &[u64],
+    layer: &mut usize,
+    cells: &mut usize,
+) -> u32 {
+    let (len, neven, nodd) = (sheet.len(), even.len(), odd.len());
+    let (sheet, even, odd) = (sheet.as_ptr(), even.as_ptr(), odd.as_ptr());
+    unsafe { vanplan_price_row(sheet, len, even, neven, odd, nodd, layer, cells) }
 }

@@ -1,4 +1,4 @@
-//! The order in which each call tests its numbers, written from document 01: of several that apply, the first in this
+//! The order in which each call tests its numbers, written from document 01, and of pricing from 02: of several that apply, the first in this
 //! order is the answer. Whatever decides between several numbers takes the order from here, and nothing leans on the
 //! numbers rising. Examples worked by hand tell their number themselves, so that a wrong list shows.
 
@@ -10,6 +10,9 @@ pub const READING: [u32; 8] = [10, 11, 12, 13, 14, 15, 16, 17];
 
 /// Planning, which reads first: these stand behind those of reading.
 pub const PLANNING: [u32; 2] = [20, 21];
+
+/// Pricing, which reads first: this stands behind those of reading. Asking for the row is refused alike.
+pub const PRICING: [u32; 1] = [22];
 
 /// Judging a plan, which reads first: these stand behind those of reading.
 pub const JUDGING: [u32; 5] = [30, 31, 32, 33, 34];
