@@ -1,5 +1,5 @@
 //! What the tests share: sheets and plans made in Rust, a reading, a judging and a planning of them written from
-//! document 01 alone, the comparison of readings, and the hardening of every call.
+//! document 01 alone, a pricing from document 02, the comparison of readings, and the hardening of every call.
 
 // Every test program covers its own calls, and none of them uses all of this.
 #![allow(dead_code)]
@@ -20,6 +20,7 @@ pub mod lively;
 pub mod orders;
 pub mod plan;
 pub mod plans;
+pub mod pricing;
 pub mod printing;
 pub mod reading;
 pub mod rng;
