@@ -27,6 +27,8 @@ pub fn table(time: Duration, counts: &Counts) {
         ("planned", counts.planned()),
         ("planned with a tie", counts.tied),
         ("planned with six tasks or more", counts.long),
+        ("priced", counts.priced()),
+        ("priced with tied starts", counts.starts_tied),
         ("accepted by the validator", counts.accepted()),
         ("differences", counts.differences),
     ] {
@@ -54,6 +56,8 @@ pub fn lent(case: &Case) {
     println!("sheet: {sheet} bytes, plan: {plan} bytes");
     let (cells, bytes) = (room.cells.len(), room.plan.len());
     println!("planning: {cells} cells, {bytes} bytes");
+    let (even, odd) = case.layers.lengths();
+    println!("pricing: {even} cells in the even layer, {odd} in the odd");
     let (n, doors, bytes) = (writing.n, writing.plan.doors.len(), writing.buffer.len());
     println!("writing a plan: n {n}, {doors} doors, {bytes} bytes");
     let (n, doors) = (reading.n, reading.doors.len());

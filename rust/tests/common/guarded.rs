@@ -147,11 +147,17 @@ impl<T: Number> Guarded<T> {
         unsafe { slice::from_raw_parts(before, CANARY.len()) }
     }
 
-    /// These elements are held now and the canary is as it was, or else what is not.
-    pub fn expect(&self, name: &str, due: &[T]) -> Result<(), String> {
+    /// The canary is as it was, or else that it is not.
+    pub fn expect_front(&self, name: &str) -> Result<(), String> {
         if self.canary() != CANARY {
             return Err(format!("{name}: written in front of what was lent"));
         }
+        Ok(())
+    }
+
+    /// These elements are held now and the canary is as it was, or else what is not.
+    pub fn expect(&self, name: &str, due: &[T]) -> Result<(), String> {
+        self.expect_front(name)?;
         let held = self.lend();
         if held == due {
             return Ok(());

@@ -3,7 +3,7 @@
 
 use super::cases::some_cases;
 use super::probe::assert_is_ended;
-use super::stand_in::{plan, read, read_plan, validate, write_plan, StandIn};
+use super::stand_in::{plan, price, price_row, read, read_plan, validate, write_plan, StandIn};
 use crate::common::fuzzing::compare::Memory;
 use crate::common::interface;
 use std::ptr::{read_volatile, write_volatile};
@@ -53,6 +53,26 @@ fn in_front_of_a_number() {
         interface::plan(sheet, cells, plan, cost)
     });
     assert_told("*cost", wrong);
+    let wrong = price(|sheet, even, odd, cost, start| {
+        touch_in_front(from_mut(cost));
+        interface::price(sheet, even, odd, cost, start)
+    });
+    assert_told("*cost", wrong);
+    let wrong = price(|sheet, even, odd, cost, start| {
+        touch_in_front(from_mut(start));
+        interface::price(sheet, even, odd, cost, start)
+    });
+    assert_told("*start", wrong);
+    let wrong = price_row(|sheet, even, odd, layer, cells| {
+        touch_in_front(from_mut(layer));
+        interface::price_row(sheet, even, odd, layer, cells)
+    });
+    assert_told("*layer", wrong);
+    let wrong = price_row(|sheet, even, odd, layer, cells| {
+        touch_in_front(from_mut(cells));
+        interface::price_row(sheet, even, odd, layer, cells)
+    });
+    assert_told("*cells", wrong);
     let wrong = validate(|sheet, plan, cost| {
         touch_in_front(from_mut(cost));
         interface::validate(sheet, plan, cost)
@@ -87,6 +107,16 @@ fn in_front_of_a_list() {
         interface::plan(sheet, cells, plan, cost)
     });
     assert_told("plan", wrong);
+    let wrong = price(|sheet, even, odd, cost, start| {
+        touch_in_front(even);
+        interface::price(sheet, even, odd, cost, start)
+    });
+    assert_told("even", wrong);
+    let wrong = price(|sheet, even, odd, cost, start| {
+        touch_in_front(odd);
+        interface::price(sheet, even, odd, cost, start)
+    });
+    assert_told("odd", wrong);
     let wrong = write_plan(|n, start, doors, cost, buf, written| {
         touch_in_front(buf);
         interface::write_plan(n, start, doors, cost, buf, written)
@@ -112,6 +142,10 @@ fn behind_a_number() {
     assert_ended(read(|_, tasks, _| look_behind(from_mut(tasks))));
     assert_ended(read(|_, _, points| look_behind(from_mut(points))));
     assert_ended(plan(|_, _, _, cost| look_behind(from_mut(cost))));
+    assert_ended(price(|_, _, _, cost, _| look_behind(from_mut(cost))));
+    assert_ended(price(|_, _, _, _, start| look_behind(from_mut(start))));
+    assert_ended(price_row(|_, _, _, layer, _| look_behind(from_mut(layer))));
+    assert_ended(price_row(|_, _, _, _, cells| look_behind(from_mut(cells))));
     assert_ended(validate(|_, _, cost| look_behind(from_mut(cost))));
     assert_ended(write_plan(|_, _, _, _, _, written| {
         look_behind(from_mut(written))
@@ -126,6 +160,12 @@ fn behind_a_list() {
     assert_ended(plan(|sheet, _, _, _| look_behind(sheet)));
     assert_ended(plan(|_, cells, _, _| look_behind(cells)));
     assert_ended(plan(|_, _, plan, _| look_behind(plan)));
+    assert_ended(price(|sheet, _, _, _, _| look_behind(sheet)));
+    assert_ended(price(|_, even, _, _, _| look_behind(even)));
+    assert_ended(price(|_, _, odd, _, _| look_behind(odd)));
+    assert_ended(price_row(|sheet, _, _, _, _| look_behind(sheet)));
+    assert_ended(price_row(|_, even, _, _, _| look_behind(even)));
+    assert_ended(price_row(|_, _, odd, _, _| look_behind(odd)));
     assert_ended(validate(|sheet, _, _| look_behind(sheet)));
     assert_ended(validate(|_, plan, _| look_behind(plan)));
     assert_ended(write_plan(|_, _, doors, _, _, _| look_behind(doors)));
@@ -138,6 +178,10 @@ fn behind_a_list() {
 fn into_what_is_lent_to_be_read() {
     assert_ended(read(|sheet, _, _| touch(sheet)));
     assert_ended(plan(|sheet, _, _, _| touch(sheet)));
+    assert_ended(price(|sheet, _, _, _, _| touch(sheet)));
+    assert_ended(price_row(|sheet, _, _, _, _| touch(sheet)));
+    assert_ended(price_row(|_, even, _, _, _| touch(even)));
+    assert_ended(price_row(|_, _, odd, _, _| touch(odd)));
     assert_ended(validate(|sheet, _, _| touch(sheet)));
     assert_ended(validate(|_, plan, _| touch(plan)));
     assert_ended(write_plan(|_, _, doors, _, _, _| touch(doors)));

@@ -1,10 +1,10 @@
 //! What stands in for one of the product's calls.
 
 use crate::common::fuzzing::calls::{
-    Call, Calls, PlanSheet, Read, ReadPlan, Validate, WritePlan, PRODUCT,
+    Call, Calls, PlanSheet, PriceRow, PriceSheet, Read, ReadPlan, Validate, WritePlan, PRODUCT,
 };
 
-/// The call that is stood in for, and all five.
+/// The call that is stood in for, and all seven.
 pub type StandIn = (Call, Calls);
 
 pub fn read(read: Read) -> StandIn {
@@ -13,6 +13,18 @@ pub fn read(read: Read) -> StandIn {
 
 pub fn plan(plan: PlanSheet) -> StandIn {
     (Call::Plan, Calls { plan, ..PRODUCT })
+}
+
+pub fn price(price: PriceSheet) -> StandIn {
+    (Call::Price, Calls { price, ..PRODUCT })
+}
+
+pub fn price_row(price_row: PriceRow) -> StandIn {
+    let calls = Calls {
+        price_row,
+        ..PRODUCT
+    };
+    (Call::PriceRow, calls)
 }
 
 pub fn validate(validate: Validate) -> StandIn {

@@ -4,6 +4,7 @@ use super::plans::{some_plan, some_plan_for};
 use super::sheets::some_sheet;
 use crate::common::finishing::recurse_and_count;
 use crate::common::plan::{plan_len, random_doors, Plan, MOST_TASKS};
+use crate::common::pricing::{layer_cells, Layers};
 use crate::common::reading::{decode, reading};
 use crate::common::rng::Rng;
 use crate::common::room::{needed, Room};
@@ -16,6 +17,8 @@ pub struct Case {
     pub solved: Result<Solved, u32>,
     /// For planning.
     pub room: Room,
+    /// For pricing, and for its row.
+    pub layers: Layers,
     /// To be validated, and to be read.
     pub plan: Vec<u8>,
     pub writing: Writing,
@@ -66,6 +69,7 @@ impl Case {
             writing: Writing::some(rng),
             reading: Reading::some(rng, &plan),
             before: rng.next(),
+            layers: some_layers(rng, &solved),
             sheet,
             solved,
             plan,
@@ -147,11 +151,31 @@ fn some_room(rng: &mut Rng, solved: &Result<Solved, u32>) -> Room {
     };
     let (cells, plan) = (some_length(rng, cells), some_length(rng, plan));
     let mut room = Room::noise(rng, cells, plan);
-    match rng.below(6) {
-        0 => room.cells.fill(0),
-        1 => room.cells.fill(u64::MAX),
-        2 => room.cells.iter_mut().for_each(|cell| *cell %= 8),
-        _ => {}
-    }
+    refill(rng, [&mut room.cells]);
     room
+}
+
+/// Layers for pricing, with anything in them too.
+fn some_layers(rng: &mut Rng, solved: &Result<Solved, u32>) -> Layers {
+    let cells = match solved {
+        Ok(solved) => layer_cells(&solved.due),
+        Err(_) => rng.below(100),
+    };
+    let (even, odd) = (some_length(rng, cells), some_length(rng, cells));
+    let mut layers = Layers::noise(rng, even, odd);
+    refill(rng, [&mut layers.even, &mut layers.odd]);
+    layers
+}
+
+/// Now and then puts small numbers, as costs are, the greatest or none in place of any.
+fn refill<const N: usize>(rng: &mut Rng, lists: [&mut Vec<u64>; N]) {
+    let kind = rng.below(6);
+    for cells in lists {
+        match kind {
+            0 => cells.fill(0),
+            1 => cells.fill(u64::MAX),
+            2 => cells.iter_mut().for_each(|cell| *cell %= 8),
+            _ => {}
+        }
+    }
 }

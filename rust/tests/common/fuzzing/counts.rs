@@ -3,6 +3,7 @@
 use super::calls::Call;
 use super::case::Case;
 use super::compare::Outcome;
+use crate::common::pricing::tied_starts;
 use crate::common::tested::ACCEPTED;
 use std::collections::BTreeMap;
 
@@ -12,6 +13,8 @@ const SHARE_OF_EACH_NUMBER: u64 = 10_000;
 const SHARE_PLANNED: u64 = 300_000;
 const SHARE_TIED: u64 = 20_000;
 const SHARE_LONG: u64 = 1_000;
+const SHARE_PRICED: u64 = 300_000;
+const SHARE_STARTS_TIED: u64 = 20_000;
 const SHARE_ACCEPTED: u64 = 300_000;
 
 /// The fewest tasks of a long round.
@@ -24,6 +27,8 @@ pub struct Counts {
     pub tied: u64,
     /// Planned, with six tasks or more.
     pub long: u64,
+    /// Priced, with several starts from which it costs as little as from any.
+    pub starts_tied: u64,
     /// Calls after which something was not as is due.
     pub differences: u64,
 }
@@ -35,9 +40,19 @@ impl Counts {
             return;
         };
         *self.answers.entry((call, number)).or_default() += 1;
-        if let (Call::Plan, ACCEPTED, Ok(solved)) = (call, number, &case.solved) {
-            self.tied += u64::from(solved.cheapest > 1);
-            self.long += u64::from(solved.sheet.tasks.len() >= LONG);
+        let (Ok(solved), ACCEPTED) = (&case.solved, number) else {
+            return;
+        };
+        match call {
+            Call::Plan => {
+                self.tied += u64::from(solved.cheapest > 1);
+                self.long += u64::from(solved.sheet.tasks.len() >= LONG);
+            }
+            Call::Price => {
+                let starts = tied_starts(&solved.due, &solved.sheet.starts);
+                self.starts_tied += u64::from(starts.len() > 1);
+            }
+            _ => {}
         }
     }
 
@@ -47,6 +62,7 @@ impl Counts {
         }
         self.tied += others.tied;
         self.long += others.long;
+        self.starts_tied += others.starts_tied;
         self.differences += others.differences;
     }
 
@@ -60,6 +76,10 @@ impl Counts {
 
     pub fn planned(&self) -> u64 {
         self.of(Call::Plan, ACCEPTED)
+    }
+
+    pub fn priced(&self) -> u64 {
+        self.of(Call::Price, ACCEPTED)
     }
 
     pub fn accepted(&self) -> u64 {
@@ -90,6 +110,12 @@ impl Counts {
             ("planned", self.planned(), SHARE_PLANNED),
             ("planned with a tie", self.tied, SHARE_TIED),
             ("planned with six tasks or more", self.long, SHARE_LONG),
+            ("priced", self.priced(), SHARE_PRICED),
+            (
+                "priced with tied starts",
+                self.starts_tied,
+                SHARE_STARTS_TIED,
+            ),
             ("accepted", self.accepted(), SHARE_ACCEPTED),
         ];
         let others = others.map(|(name, met, share)| (name.to_string(), met, share));

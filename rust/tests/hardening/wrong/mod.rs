@@ -1,6 +1,7 @@
 //! Calls that are wrong in one thing, which the comparison has to tell. They stand in for the product, and are it otherwise.
 
 mod plans;
+mod prices;
 mod sheets;
 
 use super::cases::some_cases;
