@@ -60,6 +60,20 @@ examples() {
         example plan "refused 10" 1 "$scratch/best.plan" <"$scratch/cut.sheet"
         gone "$scratch/best.plan"
     fi
+    if build_example price; then
+        example price "cost 92 start 0 by point 92 68 90" 0 <$sheet
+        example price "refused 10" 1 <"$scratch/cut.sheet"
+        prints "examples/price.c as examples/plan.c" "$(price_every_example plan "$scratch/one.plan")" 0 price_every_example price
+    fi
+}
+
+# What a C example, behind which its arguments stand, prints for each sheet of the folder: cost and start, or the refusal.
+price_every_example() {
+    local name=$1 sheet
+    shift
+    for sheet in examples/*.sheet; do
+        echo "$sheet: $("$scratch/$name" "$@" <"$sheet" | cut -d ' ' -f 1-4)"
+    done
 }
 
 # Runs a Rust example, as `cargo test` has built it.

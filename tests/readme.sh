@@ -11,6 +11,10 @@ readme_c() {
     readme_blocks c >"$scratch/round.c"
     cat >>"$scratch/round.c" <<'END'
 typedef char most_cells[VANPLAN_MAX_CELLS == VANPLAN_CELLS(12, 64) ? 1 : -1];
+typedef char most_in_layer[VANPLAN_MAX_LAYER_CELLS == VANPLAN_LAYER_CELLS(12, 64) ? 1 : -1];
+#define NEEDS(tasks, lists) (VANPLAN_LAYER_CELLS(tasks, 3) == 3 * (lists))
+typedef char layers[NEEDS(1, 1) && NEEDS(2, 2) && NEEDS(3, 3) && NEEDS(4, 6) && NEEDS(5, 10) && NEEDS(6, 20) && NEEDS(7, 35)
+                    && NEEDS(8, 70) && NEEDS(9, 126) && NEEDS(10, 252) && NEEDS(11, 462) && NEEDS(12, 924) ? 1 : -1];
 typedef char most_bytes[VANPLAN_MAX_PLAN_BYTES == VANPLAN_PLAN_BYTES(VANPLAN_MAX_PLAN_DOORS) ? 1 : -1];
 END
     for language in c c++; do
