@@ -147,9 +147,9 @@ uint32_t vanplan_plan(const uint8_t *sheet, size_t len, uint64_t *cells, size_t 
  * Returns 0, or refuses the sheet with 10 to 17 and the layers with 22.
  * 0: the first P cells of one layer, of even if N is even and of odd if it is odd, are the cost to finish the whole round
  * from each point: what vanplan_plan leaves in cells[(2^N - 1) * P + p]. The cells of each layer from B times P on are as
- * they were. What all other cells hold is left open, since the lists of one size are written over those of two tasks
- * fewer: cell i is as it was, or it is the cost to finish from point i % P of some list that the pairs allow and the
- * layer is for, of whose size i / P lists are smaller numbers. Nothing else depends on what the layers held before. */
+ * they were. What all other cells hold is left open, since lists are written over those of two tasks fewer: cell i is as
+ * it was, or the cost to finish from point i % P with some list open that the pairs allow, that the layer is for, and
+ * that has i / P lists of its size below it. Nothing else depends on what the layers held before. */
 uint32_t vanplan_price(const uint8_t *sheet, size_t len, uint64_t *even, size_t neven, uint64_t *odd, size_t nodd,
                        uint64_t *cost, uint16_t *start);
 

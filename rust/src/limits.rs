@@ -1,4 +1,4 @@
-//! The limits of document 01, by the names that they have in `include/vanplan.h`.
+//! The limits of documents 01 and 02, by the names that they have in `include/vanplan.h`.
 
 /// The bytes of the longest task sheet. A caller that reads one byte more sees that its input is longer.
 pub const MAX_SHEET_BYTES: usize = 9_638;
@@ -33,7 +33,7 @@ pub const fn layer_cells(tasks: usize, points: usize) -> usize {
 
 /// The largest number of lists of tasks of one size: the binomial of all tasks over half of them.
 const fn most_lists(tasks: usize) -> usize {
-    /// The most tasks for which it has 64 bits.
+    /// The most tasks for which 64 bits hold it.
     const MOST: usize = 67;
     if tasks > MOST {
         return usize::MAX;

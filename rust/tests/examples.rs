@@ -8,6 +8,7 @@ use common::examples::{
 };
 use common::finishing::recurse;
 use common::plan::Plan;
+use common::pricing::{price, row};
 use common::printing::{plan_lines, refusal_line, sheet_to_plan};
 use common::sheet::Sheet;
 use common::town::{eight, twelve};
@@ -126,5 +127,15 @@ fn the_readme_has_the_plan_of_twelve() {
     let Plan { start, doors, cost } = recurse(&twelve()).plan;
     let doors: String = doors.iter().map(|door| format!(" {door}")).collect();
     let line = format!("cost {cost} start {start} doors{doors}");
+    assert!(README.lines().any(|l| l == line), "{line}");
+}
+
+/// And what pricing sheet A finds.
+#[test]
+fn the_readme_has_the_price_of_a() {
+    let due = recurse(&sheet_a());
+    let (cost, start) = price(&due.plan);
+    let by_point: String = row(&due).iter().map(|cost| format!(" {cost}")).collect();
+    let line = format!("cost {cost} start {start} by point{by_point}");
     assert!(README.lines().any(|l| l == line), "{line}");
 }

@@ -32,6 +32,7 @@ fn ends_where_it_is_lent<T: Number>(mut place: Guarded<T>, any: T) {
 fn nothing_behind_can_be_touched() {
     ends_where_it_is_lent(Guarded::to_read(CAPACITY), 7_u8);
     ends_where_it_is_lent(Guarded::to_read(CAPACITY), 7_u16);
+    ends_where_it_is_lent(Guarded::to_read(CAPACITY), 7_u64);
     ends_where_it_is_lent(Guarded::to_write(CAPACITY), 7_u8);
     ends_where_it_is_lent(Guarded::to_write(CAPACITY), 7_u16);
     ends_where_it_is_lent(Guarded::to_write(CAPACITY), 7_u64);

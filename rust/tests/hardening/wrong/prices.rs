@@ -2,7 +2,7 @@
 
 use super::assert_told;
 use crate::common::interface;
-use crate::common::pricing::most_lists;
+use crate::common::pricing::{most_lists, EVEN};
 use crate::common::reading::{decode, faults};
 use crate::common::rounds::is_allowed;
 use crate::common::tested::ACCEPTED;
@@ -105,7 +105,7 @@ fn leaves_the_row_in_the_other_layer() {
         if number == ACCEPTED {
             let sheet = decode(sheet);
             let points = sheet.points.len();
-            if sheet.tasks.len() % 2 == 0 {
+            if sheet.tasks.len() % 2 == EVEN {
                 even[..points].swap_with_slice(&mut odd[..points]);
             }
         }
@@ -147,7 +147,7 @@ fn states_a_cost_that_is_not_the_starts() {
         let number = interface::price(sheet, even, odd, cost, start);
         if number == ACCEPTED {
             let sheet = decode(sheet);
-            let row = if sheet.tasks.len() % 2 == 0 {
+            let row = if sheet.tasks.len() % 2 == EVEN {
                 even
             } else {
                 odd
@@ -205,7 +205,7 @@ fn leaves_another_list_where_the_row_is_due() {
         if number == ACCEPTED {
             let sheet = decode(sheet);
             let points = sheet.points.len();
-            if sheet.tasks.len() % 2 == 0 {
+            if sheet.tasks.len() % 2 == EVEN {
                 even.copy_within(points..2 * points, 0);
             }
         }
