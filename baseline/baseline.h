@@ -15,19 +15,19 @@ typedef uint32_t plan_call(const uint8_t *sheet, size_t len, uint64_t *cells, si
                            size_t plan_len, uint64_t *cost);
 
 /* One way to plan. */
-struct planner {
+struct way {
     const char *gathering, *points;
     plan_call *plan;
 };
 
-enum { PLANNERS = 7 };
+enum { WAYS = 7 };
 
 struct build {
     const char *compiler, *version, *target;
     read_call *read;
     validate_call *validate;
     plan_call *triple_loop;
-    struct planner planners[PLANNERS];
+    struct way ways[WAYS];
 };
 
 #define JOIN_AS_IS(prefix, name) prefix##_##name

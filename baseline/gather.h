@@ -2,11 +2,11 @@
 #ifndef GATHER_H
 #define GATHER_H
 
-#include "table.h"
+#include "round.h"
 
 /* With a branch for each rule and for each door. */
-ALWAYS_INLINE size_t gather_branching(const struct round *r, uint32_t list, uint32_t first, const uint64_t *row,
-                                      struct gathered *g)
+ALWAYS_INLINE size_t gather_branching(const struct round *r, uint32_t list, uint32_t first,
+                                      const struct rests *rests, struct gathered *g)
 {
     uint64_t charges[MAX_DOORS];
     size_t m = 0;
@@ -18,7 +18,7 @@ ALWAYS_INLINE size_t gather_branching(const struct round *r, uint32_t list, uint
     for (size_t d = 0; d < r->ndoors; d++)
         if (first >> r->task[d] & 1) {
             g->to[m] = r->to[d];
-            g->part[m] = r->work[d] + charges[d] + row[r->rest[d]];
+            g->part[m] = r->work[d] + charges[d] + rest_cell(r, rests, d);
             m++;
         }
     return m;
@@ -38,8 +38,8 @@ ALWAYS_INLINE void work_and_charges(const struct round *r, uint32_t list, uint64
 
 /* Without branches: a first pass puts every door down and counts it only if its task may come next; a second pass takes
  * the parts of those counted. */
-ALWAYS_INLINE size_t gather_in_two_passes(const struct round *r, uint32_t list, uint32_t first, const uint64_t *row,
-                                          struct gathered *g)
+ALWAYS_INLINE size_t gather_in_two_passes(const struct round *r, uint32_t list, uint32_t first,
+                                          const struct rests *rests, struct gathered *g)
 {
     uint64_t sums[MAX_DOORS];
     uint8_t doors[MAX_DOORS];
@@ -52,14 +52,14 @@ ALWAYS_INLINE size_t gather_in_two_passes(const struct round *r, uint32_t list, 
     }
     for (size_t i = 0; i < m; i++) {
         g->to[i] = r->to[doors[i]];
-        g->part[i] = sums[doors[i]] + row[r->rest[doors[i]]];
+        g->part[i] = sums[doors[i]] + rest_cell(r, rests, doors[i]);
     }
     return m;
 }
 
 /* Without branches: the doors of the tasks that may come next are a set of bits. */
-ALWAYS_INLINE size_t gather_by_bits(const struct round *r, uint32_t list, uint32_t first, const uint64_t *row,
-                                    struct gathered *g)
+ALWAYS_INLINE size_t gather_by_bits(const struct round *r, uint32_t list, uint32_t first,
+                                    const struct rests *rests, struct gathered *g)
 {
     uint64_t sums[MAX_DOORS], doors = r->low[first % HALF_LISTS].doors | r->high[first / HALF_LISTS].doors;
     size_t m = 0;
@@ -68,7 +68,7 @@ ALWAYS_INLINE size_t gather_by_bits(const struct round *r, uint32_t list, uint32
     for (; doors; doors &= doors - 1) {
         size_t d = (size_t)__builtin_ctzll(doors);
         g->to[m] = r->to[d];
-        g->part[m] = sums[d] + row[r->rest[d]];
+        g->part[m] = sums[d] + rest_cell(r, rests, d);
         m++;
     }
     return m;

@@ -2,7 +2,7 @@
 #ifndef ROW_H
 #define ROW_H
 
-#include "table.h"
+#include "round.h"
 
 /* Through door i of those gathered, from the point that these distances are from. */
 ALWAYS_INLINE uint64_t through(const uint8_t *distances, uint32_t load, const struct gathered *g, size_t i)

@@ -74,7 +74,7 @@ extern "C" {
     static baseline_count: usize;
 }
 
-/// `struct build` and `struct planner` of `baseline/baseline.h`.
+/// `struct build` and `struct way` of `baseline/baseline.h`.
 #[repr(C)]
 struct Build {
     compiler: *const c_char,
