@@ -13,11 +13,14 @@ typedef uint32_t read_call(const uint8_t *sheet, size_t len, uint64_t *tasks, ui
 typedef uint32_t validate_call(const uint8_t *sheet, size_t len, const uint8_t *plan, size_t plan_len, uint64_t *cost);
 typedef uint32_t plan_call(const uint8_t *sheet, size_t len, uint64_t *cells, size_t ncells, uint8_t *plan,
                            size_t plan_len, uint64_t *cost);
+typedef uint32_t price_call(const uint8_t *sheet, size_t len, uint64_t *even, size_t neven, uint64_t *odd, size_t nodd,
+                            uint64_t *cost, uint16_t *start);
 
-/* One way to plan. */
+/* One way to plan and to price. */
 struct way {
     const char *gathering, *points;
     plan_call *plan;
+    price_call *price;
 };
 
 enum { WAYS = 7 };

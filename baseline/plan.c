@@ -16,6 +16,10 @@
 
 EACH_WAY(PLAN)
 
+#define DECLARE_PRICE(name, ...) extern price_call OWN(price_##name);
+
+EACH_WAY(DECLARE_PRICE)
+
 extern read_call OWN(read);
 extern validate_call OWN(validate);
 extern plan_call OWN(triple_loop);
@@ -27,7 +31,7 @@ extern const struct build OWN(build);
 #define COMPILER "gcc"
 #endif
 
-#define CALLS(name, gathering, points, ...) {gathering, points, plan_##name},
+#define CALLS(name, gathering, points, ...) {gathering, points, plan_##name, OWN(price_##name)},
 
 const struct build OWN(build) = {
     COMPILER, __VERSION__, TARGET, OWN(read), OWN(validate), OWN(triple_loop), {EACH_WAY(CALLS)},

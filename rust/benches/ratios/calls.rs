@@ -10,6 +10,16 @@ pub type Read = unsafe extern "C" fn(*const u8, usize, *mut u64, *mut u64) -> u3
 pub type Validate = unsafe extern "C" fn(*const u8, usize, *const u8, usize, *mut u64) -> u32;
 pub type Plan =
     unsafe extern "C" fn(*const u8, usize, *mut u64, usize, *mut u8, usize, *mut u64) -> u32;
+pub type Price = unsafe extern "C" fn(
+    *const u8,
+    usize,
+    *mut u64,
+    usize,
+    *mut u64,
+    usize,
+    *mut u64,
+    *mut u16,
+) -> u32;
 
 /// Who makes a call, and for which target.
 #[derive(Clone, Copy, Debug, PartialEq, Eq)]
@@ -46,6 +56,7 @@ pub struct Calls {
     pub reads: Vec<Entry<Read>>,
     pub validates: Vec<Entry<Validate>>,
     pub plans: Vec<Entry<Plan>>,
+    pub prices: Vec<Entry<Price>>,
     /// In C for plain x86-64.
     pub triple_loops: Vec<Entry<Plan>>,
 }
@@ -68,6 +79,16 @@ extern "C" {
         plan_len: usize,
         cost: *mut u64,
     ) -> u32;
+    fn vanplan_price(
+        sheet: *const u8,
+        len: usize,
+        even: *mut u64,
+        neven: usize,
+        odd: *mut u64,
+        nodd: usize,
+        cost: *mut u64,
+        start: *mut u16,
+    ) -> u32;
 
     /// The first of the pointers to all builds.
     static baseline_builds: *const Build;
@@ -83,14 +104,15 @@ struct Build {
     read: Read,
     validate: Validate,
     triple_loop: Plan,
-    planners: [Planner; 7],
+    ways: [Way; 7],
 }
 
 #[repr(C)]
-struct Planner {
+struct Way {
     gathering: *const c_char,
     points: *const c_char,
     plan: Plan,
+    price: Price,
 }
 
 fn builds() -> impl Iterator<Item = &'static Build> {
@@ -121,6 +143,7 @@ impl Calls {
             reads: vec![rattle(vanplan_read as Read)],
             validates: vec![rattle(vanplan_validate as Validate)],
             plans: vec![rattle(vanplan_plan as Plan)],
+            prices: vec![rattle(vanplan_price as Price)],
             triple_loops: Vec::new(),
         };
         builds().for_each(|build| calls.add(build));
@@ -143,10 +166,15 @@ impl Calls {
         };
         self.reads.push(entry(maker, by, build.read));
         self.validates.push(entry(maker, by, build.validate));
-        for planner in &build.planners {
+        for way in &build.ways {
+            let shape = Some([text(way.gathering), text(way.points)]);
             self.plans.push(Entry {
-                shape: Some([text(planner.gathering), text(planner.points)]),
-                ..entry(maker, by, planner.plan)
+                shape,
+                ..entry(maker, by, way.plan)
+            });
+            self.prices.push(Entry {
+                shape,
+                ..entry(maker, by, way.price)
             });
         }
         if maker == Maker::C {
@@ -191,6 +219,30 @@ pub fn plan(call: Plan, sheet: &[u8], cells: &mut [u64], plan: &mut [u8], cost: 
             plan.as_mut_ptr(),
             plan.len(),
             cost,
+        )
+    }
+}
+
+pub fn price(
+    call: Price,
+    sheet: &[u8],
+    even: &mut [u64],
+    odd: &mut [u64],
+    cost: &mut u64,
+    start: &mut u16,
+) -> u32 {
+    // SAFETY: each pointer with a length is that of a slice; the sheet is only read, and the four others are exclusive
+    // references.
+    unsafe {
+        call(
+            sheet.as_ptr(),
+            sheet.len(),
+            even.as_mut_ptr(),
+            even.len(),
+            odd.as_mut_ptr(),
+            odd.len(),
+            cost,
+            start,
         )
     }
 }

@@ -9,7 +9,8 @@ use crate::common::rng::Rng;
 use crate::common::sheet::Sheet;
 use crate::common::tested::READING;
 use crate::common::valid::{make_small, valid, ROOMY, SMALL};
-use crate::compare::{Comparison, Room};
+use crate::compare::Comparison;
+use crate::rooms::{cells, layer_cells, Layers, Room};
 
 /// Seeds of each kind of case.
 const SEEDS: u64 = 100;
@@ -38,21 +39,28 @@ pub fn compare_small(calls: &Calls, all: &mut Comparison) {
 /// Any sheet, in a room that is large enough for all small ones.
 fn compare_sheet(calls: &Calls, all: &mut Comparison, rng: &mut Rng, sheet: &[u8], case: &str) {
     let room = Room::noise(rng, 640, 56);
+    let layers = Layers::noise(rng, 320, 320);
     let bytes = Plan::random(rng, 2).encode();
     all.reading(calls, sheet, case);
     all.planning(calls, sheet, &room, case);
+    all.pricing(calls, sheet, &layers, case);
     all.validating(calls, sheet, &bytes, case);
 }
 
 /// A sheet that reads: rooms that are just enough and one too small, and plans that are good and damaged.
 fn compare_valid(calls: &Calls, all: &mut Comparison, rng: &mut Rng, sheet: &Sheet, case: &str) {
     let bytes = sheet.encode();
-    let tasks = sheet.tasks.len();
-    let (cells, len) = (sheet.points.len() << tasks, plan_len(tasks));
+    let (tasks, points) = (sheet.tasks.len(), sheet.points.len());
+    let (cells, len) = (cells(tasks, points), plan_len(tasks));
+    let layer = layer_cells(tasks, points);
     compare_sheet(calls, all, rng, &bytes, case);
     for (cells, len) in [(cells, len), (cells - 1, len), (cells, len - 1)] {
         let room = Room::noise(rng, cells, len);
         all.planning(calls, &bytes, &room, case);
+    }
+    for (even, odd) in [(layer, layer), (layer - 1, layer), (layer, layer - 1)] {
+        let layers = Layers::noise(rng, even, odd);
+        all.pricing(calls, &bytes, &layers, case);
     }
     let best = vanplan::plan(&bytes).expect("a sheet that reads");
     let best = Plan::of(best.start, &best.doors, best.cost);

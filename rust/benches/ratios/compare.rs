@@ -1,16 +1,16 @@
 //! Whether all calls answer alike: the number, and every value, cell and byte afterwards are compared with what the
-//! proved library answers and leaves.
+//! proved library answers and leaves; and what it prices with what it plans.
 
-use crate::calls::{plan, read, validate, Calls, Entry};
+use crate::calls::{plan, price, read, validate, Calls, Entry};
 use crate::common::plan::{plan_len, MOST_TASKS};
 use crate::common::rng::Rng;
-use crate::races::MOST_CELLS;
+use crate::rooms::{Layers, Room, MOST_CELLS, MOST_LAYER_CELLS};
 use crate::sheets::Subject;
 use std::collections::BTreeMap;
 
 /// Every number that a call can answer with; 0 stands for no refusal.
-const NUMBERS: [u32; 16] = [
-    0, 10, 11, 12, 13, 14, 15, 16, 17, 20, 21, 30, 31, 32, 33, 34,
+const NUMBERS: [u32; 17] = [
+    0, 10, 11, 12, 13, 14, 15, 16, 17, 20, 21, 22, 30, 31, 32, 33, 34,
 ];
 
 /// What a call answers, and what then stands in each place that it was lent.
@@ -34,22 +34,6 @@ impl Answer {
     }
 }
 
-/// What is lent to a call, with something in it.
-#[derive(Clone)]
-pub struct Room {
-    pub cells: Vec<u64>,
-    pub plan: Vec<u8>,
-}
-
-impl Room {
-    pub fn noise(rng: &mut Rng, cells: usize, plan: usize) -> Room {
-        Room {
-            cells: (0..cells).map(|_| rng.next()).collect(),
-            plan: rng.bytes(plan),
-        }
-    }
-}
-
 /// Compares calls, and keeps count of the calls and of the numbers answered.
 #[derive(Default)]
 pub struct Comparison {
@@ -62,30 +46,36 @@ pub struct Comparison {
 const LENT: u64 = 0xdead_beef_0bad_f00d;
 
 impl Comparison {
-    /// All calls on a sheet that is timed; the room is longer than need be.
+    /// All calls on a sheet that is timed; what is lent is longer than need be.
     pub fn all(&mut self, calls: &Calls, subject: &Subject) {
-        let Subject { name, sheet, plan } = subject;
-        let room = Room::noise(&mut Rng::new(1), MOST_CELLS + 9, plan_len(MOST_TASKS) + 9);
+        let Subject {
+            name, sheet, plan, ..
+        } = subject;
+        let rng = &mut Rng::new(1);
+        let room = Room::noise(rng, MOST_CELLS + 9, plan_len(MOST_TASKS) + 9);
+        let layers = Layers::noise(rng, MOST_LAYER_CELLS + 9, MOST_LAYER_CELLS + 9);
         let answers = [
             self.reading(calls, sheet, name),
             self.validating(calls, sheet, plan, name),
             self.planning(calls, sheet, &room, name),
+            self.pricing(calls, sheet, &layers, name),
         ];
-        assert_eq!(answers, [0; 3], "{name}");
+        assert_eq!(answers, [0; 4], "{name}");
     }
 
     pub fn reading(&mut self, calls: &Calls, sheet: &[u8], case: &str) -> u32 {
-        self.compare(&calls.reads, &[], &format!("reading {case}"), |call| {
+        let due = self.compare(&calls.reads, &[], &format!("reading {case}"), |call| {
             let (mut tasks, mut points) = (LENT, LENT);
             Answer {
                 number: read(call, sheet, &mut tasks, &mut points),
                 places: vec![("tasks", vec![tasks]), ("points", vec![points])],
             }
-        })
+        });
+        due.number
     }
 
     pub fn validating(&mut self, calls: &Calls, sheet: &[u8], bytes: &[u8], case: &str) -> u32 {
-        self.compare(
+        let due = self.compare(
             &calls.validates,
             &[],
             &format!("validating {case}"),
@@ -96,12 +86,13 @@ impl Comparison {
                     places: vec![("cost", vec![cost])],
                 }
             },
-        )
+        );
+        due.number
     }
 
     pub fn planning(&mut self, calls: &Calls, sheet: &[u8], room: &Room, case: &str) -> u32 {
         let triple_loops = &calls.triple_loops;
-        self.compare(
+        let due = self.compare(
             &calls.plans,
             triple_loops,
             &format!("planning {case}"),
@@ -116,7 +107,51 @@ impl Comparison {
                     ],
                 }
             },
-        )
+        );
+        due.number
+    }
+
+    /// Cost and start are also those of the plan; a refusal is planning's unless it is 22.
+    pub fn pricing(&mut self, calls: &Calls, sheet: &[u8], layers: &Layers, case: &str) -> u32 {
+        let case = format!("pricing {case}");
+        let due = self.compare(&calls.prices, &[], &case, |call| {
+            let (mut layers, mut cost, mut start) = (layers.clone(), LENT, LENT as u16);
+            let Layers { even, odd } = &mut layers;
+            Answer {
+                number: price(call, sheet, even, odd, &mut cost, &mut start),
+                places: vec![
+                    ("cost", vec![cost]),
+                    ("start", vec![start.into()]),
+                    ("even cell", layers.even),
+                    ("odd cell", layers.odd),
+                ],
+            }
+        });
+        if due.number != 22 {
+            self.as_planned(sheet, &due, &case);
+        }
+        due.number
+    }
+
+    /// Compares the price, or the refusal, with the plan that the proved library makes of the sheet.
+    fn as_planned(&mut self, sheet: &[u8], due: &Answer, case: &str) {
+        let planned = match vanplan::plan(sheet) {
+            Ok(plan) => Answer {
+                number: 0,
+                places: vec![
+                    ("cost", vec![plan.cost]),
+                    ("start", vec![plan.start.into()]),
+                ],
+            },
+            Err(refusal) => Answer {
+                number: refusal.number(),
+                places: Vec::new(),
+            },
+        };
+        if let Some(difference) = planned.difference(due) {
+            println!("{case}: beside the plan it has {difference}");
+            self.differences += 1;
+        }
     }
 
     /// Compares all entries, and more of them, with the first, and returns what that answers.
@@ -126,7 +161,7 @@ impl Comparison {
         more: &[Entry<F>],
         case: &str,
         ask: impl Fn(F) -> Answer,
-    ) -> u32 {
+    ) -> Answer {
         let due = ask(entries[0].call);
         for entry in entries[1..].iter().chain(more) {
             if let Some(difference) = due.difference(&ask(entry.call)) {
@@ -140,7 +175,7 @@ impl Comparison {
         }
         self.calls += entries.len() + more.len();
         *self.met.entry(due.number).or_default() += 1;
-        due.number
+        due
     }
 
     /// Whether all was alike and every number was met. Says what was compared.

@@ -1,11 +1,16 @@
 //! Whether the goals are met, and whether the C is what it should be.
 
 use crate::calls::Maker;
+use crate::races::Rows;
 use crate::report::{time, Row};
 
 /// The proved library takes at most so much of the best C for the same target, which for each list passes once over the
 /// rules and once over the doors. What C can do in other shapes is told beside it, with no goal.
 const PLANNING: f64 = 1.05;
+
+/// And to price, both of the best C and of its own planning.
+const PRICING: f64 = 1.05;
+const PRICING_TO_PLANNING: f64 = 1.15;
 
 /// And to read and to validate.
 const READING: f64 = 1.2;
@@ -21,16 +26,22 @@ const MEASURED: [f64; 4] = [0.53e-6, 0.12e-6, 0.98e-6, 0.32e-6];
 const MEASURED_TRIPLE_LOOP: f64 = 137e-3;
 const TUNED: f64 = 1.15;
 
-/// Prints a line for each goal, by the rows as `Races::rows` has them.
-pub fn print(planning: &[Row], others: &[Row]) {
+/// Prints a line for each goal.
+pub fn print(rows: &Rows) {
+    let Rows {
+        planning,
+        pricing,
+        others,
+    } = rows;
     println!();
     for row in planning {
         print_ratio(row, PLANNING);
-        let ratio = row.ratio_to(row.fastest_c());
-        println!(
-            "- {}: Rattle takes {ratio:.2} of C in its fastest shape",
-            row.title
-        );
+        print_fastest(row);
+    }
+    for (row, planning) in pricing.iter().zip(planning) {
+        print_ratio(row, PRICING);
+        print_fastest(row);
+        print_to_planning(row, planning);
     }
     for row in others {
         print_ratio(row, READING);
@@ -53,6 +64,25 @@ fn print_goal(row: &Row, what: &str, goal: &str, met: bool) {
 fn print_ratio(row: &Row, most: f64) {
     let ratio = row.ratio_to(row.best_c());
     let what = format!("Rattle takes {ratio:.2} of the best C");
+    print_goal(row, &what, &format!("at most {most}"), ratio <= most);
+}
+
+/// The ratio of the proved library to C in any shape.
+fn print_fastest(row: &Row) {
+    let ratio = row.ratio_to(row.fastest_c());
+    println!(
+        "- {}: Rattle takes {ratio:.2} of C in its fastest shape",
+        row.title
+    );
+}
+
+/// The ratio of the proved library to its own planning of the same sheet.
+fn print_to_planning(row: &Row, planning: &Row) {
+    let ratio = row.ratio_to(planning.rattle());
+    let (what, most) = (
+        format!("Rattle takes {ratio:.2} of its planning"),
+        PRICING_TO_PLANNING,
+    );
     print_goal(row, &what, &format!("at most {most}"), ratio <= most);
 }
 

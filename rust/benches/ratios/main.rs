@@ -11,6 +11,7 @@ mod goals;
 mod planner;
 mod races;
 mod report;
+mod rooms;
 mod sheets;
 mod time;
 
@@ -37,9 +38,9 @@ fn main() -> ExitCode {
     println!("C by {}", calls::compilers().join(" and by "));
     println!("least of {rounds} runs or more, taken in turn; processor time of the one thread");
     println!("buffers are not cleared between runs");
-    let (planning, others) = races.rows();
-    report::print(&planning, &others);
-    goals::print(&planning, &others);
+    let rows = races.rows();
+    report::print(&rows, &[&worst, &middle]);
+    goals::print(&rows);
     ExitCode::SUCCESS
 }
 

@@ -1,13 +1,12 @@
 //! What is timed: each call on two sheets.
 
-use crate::calls::{self, Calls, Entry, Plan, Read, Validate};
+use crate::calls::{self, Calls, Entry, Plan, Price, Read, Validate};
 use crate::common::plan::{plan_len, MOST_TASKS};
 use crate::report::Row;
+use crate::rooms::{MOST_CELLS, MOST_LAYER_CELLS};
 use crate::sheets::Subject;
 use crate::time::Race;
 use std::hint::black_box;
-
-pub const MOST_CELLS: usize = 4_096 * 64;
 
 /// All calls but the triple loops come so often in a round.
 const PASSES: usize = 2;
@@ -17,9 +16,18 @@ const BATCH: usize = 2_000;
 
 pub struct Races<'a> {
     planning: [Race<'a, Plan>; 2],
+    pricing: [Race<'a, Price>; 2],
     triple_loops: [Race<'a, Plan>; 2],
     reading: [Race<'a, Read>; 2],
     validating: [Race<'a, Validate>; 2],
+}
+
+/// The rows of planning and of pricing, each on the worst and middle case; and those of reading, then of validating,
+/// each on the longest and middle sheet.
+pub struct Rows {
+    pub planning: Vec<Row>,
+    pub pricing: Vec<Row>,
+    pub others: Vec<Row>,
 }
 
 impl<'a> Races<'a> {
@@ -33,6 +41,10 @@ impl<'a> Races<'a> {
             planning: [
                 planning("planning, worst case", &calls.plans, worst, 1),
                 planning("planning, middle case", &calls.plans, middle, 10),
+            ],
+            pricing: [
+                pricing("pricing, worst case", calls, worst, 1),
+                pricing("pricing, middle case", calls, middle, 10),
             ],
             triple_loops: [
                 planning("triple loop", &calls.triple_loops, worst, 1),
@@ -53,19 +65,22 @@ impl<'a> Races<'a> {
         self.triple_loops.iter_mut().for_each(Race::run);
         for _ in 0..PASSES {
             self.planning.iter_mut().for_each(Race::run);
+            self.pricing.iter_mut().for_each(Race::run);
             self.reading.iter_mut().for_each(Race::run);
             self.validating.iter_mut().for_each(Race::run);
         }
     }
 
-    /// The rows of planning, on the worst and middle case; and those of reading, then of validating, each on the
-    /// longest and middle sheet.
-    pub fn rows(&self) -> (Vec<Row>, Vec<Row>) {
+    pub fn rows(&self) -> Rows {
         let pairs = self.planning.iter().zip(&self.triple_loops);
         let planning = pairs.map(|(race, triple_loops)| Row::of(race).and(triple_loops));
         let reading = self.reading.iter().map(Row::of);
         let validating = self.validating.iter().map(Row::of);
-        (planning.collect(), reading.chain(validating).collect())
+        Rows {
+            planning: planning.collect(),
+            pricing: self.pricing.iter().map(Row::of).collect(),
+            others: reading.chain(validating).collect(),
+        }
     }
 }
 
@@ -81,6 +96,21 @@ fn planning<'a>(
     Race::new(title, plans, batch, move |call| {
         let sheet = black_box(&subject.sheet);
         let number = calls::plan(call, sheet, &mut cells, &mut plan, &mut cost);
+        assert_eq!(number, 0);
+    })
+}
+
+fn pricing<'a>(
+    title: &'static str,
+    calls: &'a Calls,
+    subject: &'a Subject,
+    batch: usize,
+) -> Race<'a, Price> {
+    let [mut even, mut odd] = [0; 2].map(|cell| vec![cell; MOST_LAYER_CELLS]);
+    let (mut cost, mut start) = (0, 0);
+    Race::new(title, &calls.prices, batch, move |call| {
+        let sheet = black_box(&subject.sheet);
+        let number = calls::price(call, sheet, &mut even, &mut odd, &mut cost, &mut start);
         assert_eq!(number, 0);
     })
 }

@@ -1,6 +1,9 @@
-//! The tables that are printed: one of ratios, and those of the times of every call.
+//! The tables that are printed: one of ratios, one of pricing beside planning, and those of the times of every call.
 
 use crate::calls::Maker;
+use crate::races::Rows;
+use crate::rooms::{cells, layer_cells};
+use crate::sheets::Subject;
 use crate::time::Race;
 
 /// One call and the least time of it.
@@ -53,8 +56,8 @@ impl Row {
         self.best(|timed| timed.maker == maker)
     }
 
-    fn rattle(&self) -> f64 {
-        self.timed[0].seconds
+    pub fn rattle(&self) -> &Timed {
+        &self.timed[0]
     }
 
     /// The best C of the plain shape for the same target.
@@ -70,7 +73,7 @@ impl Row {
 
     /// The proved library's time over that of another.
     pub fn ratio_to(&self, other: &Timed) -> f64 {
-        self.rattle() / other.seconds
+        self.rattle().seconds / other.seconds
     }
 }
 
@@ -93,14 +96,21 @@ fn cell(timed: Option<&Timed>, ratio: impl Fn(&Timed) -> f64) -> String {
     }
 }
 
-/// Prints the tables: the rows of planning, and those of the other calls.
-pub fn print(planning: &[Row], others: &[Row]) {
+/// Prints the tables. The rows of planning and of pricing are those of these subjects.
+pub fn print(rows: &Rows, subjects: &[&Subject]) {
+    let Rows {
+        planning,
+        pricing,
+        others,
+    } = rows;
     println!();
-    print_ratios(planning.iter().chain(others));
+    print_ratios(planning.iter().chain(pricing).chain(others));
     println!();
-    print_details(planning);
-    println!();
-    print_details(others);
+    print_beside(subjects, planning, pricing);
+    for rows in [planning, pricing, others] {
+        println!();
+        print_details(rows);
+    }
 }
 
 /// The one table of ratios.
@@ -116,7 +126,7 @@ fn print_ratios<'a>(rows: impl Iterator<Item = &'a Row>) {
         println!(
             "| {} | {} | **{:.2}** | {} ({}) | {} | {} | {} | {} |",
             row.title,
-            time(row.rattle()),
+            time(row.rattle().seconds),
             row.ratio_to(best),
             time(best.seconds),
             best.name,
@@ -125,6 +135,28 @@ fn print_ratios<'a>(rows: impl Iterator<Item = &'a Row>) {
             cell(row.best_of(Maker::Rust), against),
             cell(row.best_of(Maker::TripleLoop), |timed| timed.seconds
                 / best.seconds),
+        );
+    }
+}
+
+/// What pricing and planning by the proved library take, side by side: cells, and time.
+fn print_beside(subjects: &[&Subject], planning: &[Row], pricing: &[Row]) {
+    println!(
+        "| Rattle | cells, planning | cells, pricing | pricing / planning | time, planning | time, pricing \
+         | pricing / planning |"
+    );
+    println!("|---|---|---|---|---|---|---|");
+    for (subject, (planning, pricing)) in subjects.iter().zip(planning.iter().zip(pricing)) {
+        let Subject { tasks, points, .. } = **subject;
+        let (cells, layer) = (cells(tasks, points), layer_cells(tasks, points));
+        println!(
+            "| {} | {cells} | {} (2 layers of {layer}) | {:.2} | {} | {} | **{:.2}** |",
+            subject.name,
+            2 * layer,
+            (2 * layer) as f64 / cells as f64,
+            time(planning.rattle().seconds),
+            time(pricing.rattle().seconds),
+            pricing.ratio_to(planning.rattle()),
         );
     }
 }

@@ -7,16 +7,25 @@ use crate::common::valid::pairs;
 /// A sheet that is timed, and its cheapest plan.
 pub struct Subject {
     pub name: &'static str,
+    pub tasks: usize,
+    pub points: usize,
     pub sheet: Vec<u8>,
     pub plan: Vec<u8>,
 }
 
 impl Subject {
     fn new(name: &'static str, entries: Entries) -> Subject {
+        let Entries { tasks, points, .. } = entries;
         let sheet = draw(entries);
         let plan = vanplan::plan(&sheet).expect("a sheet that reads");
         let plan = plan.to_bytes().expect("a plan of the planner");
-        Subject { name, sheet, plan }
+        Subject {
+            name,
+            tasks,
+            points,
+            sheet,
+            plan,
+        }
     }
 }
 
