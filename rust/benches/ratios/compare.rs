@@ -4,7 +4,7 @@
 use crate::calls::{plan, price, read, validate, Calls, Entry};
 use crate::common::plan::{plan_len, MOST_TASKS};
 use crate::common::rng::Rng;
-use crate::rooms::{Layers, Room, MOST_CELLS, MOST_LAYER_CELLS};
+use crate::rooms::{cells, layer_cells, Layers, Room, MOST_CELLS, MOST_LAYER_CELLS};
 use crate::sheets::Subject;
 use std::collections::BTreeMap;
 
@@ -46,36 +46,41 @@ pub struct Comparison {
 const LENT: u64 = 0xdead_beef_0bad_f00d;
 
 impl Comparison {
-    /// All calls on a sheet that is timed; what is lent is longer than need be.
+    /// All calls on a sheet that is timed: planning and pricing with more than they need, with just that, and with a
+    /// cell less.
     pub fn all(&mut self, calls: &Calls, subject: &Subject) {
         let Subject {
             name, sheet, plan, ..
         } = subject;
+        assert_eq!(self.reading(calls, sheet, name), 0, "{name}");
+        assert_eq!(self.validating(calls, sheet, plan, name), 0, "{name}");
+        let (tasks, points) = (subject.tasks, subject.points);
         let rng = &mut Rng::new(1);
-        let room = Room::noise(rng, MOST_CELLS + 9, plan_len(MOST_TASKS) + 9);
-        let layers = Layers::noise(rng, MOST_LAYER_CELLS + 9, MOST_LAYER_CELLS + 9);
-        let answers = [
-            self.reading(calls, sheet, name),
-            self.validating(calls, sheet, plan, name),
-            self.planning(calls, sheet, &room, name),
-            self.pricing(calls, sheet, &layers, name),
-        ];
-        assert_eq!(answers, [0; 4], "{name}");
+        let needed = cells(tasks, points);
+        for (cells, due) in [(MOST_CELLS + 9, 0), (needed, 0), (needed - 1, 20)] {
+            let room = Room::noise(rng, cells, plan_len(MOST_TASKS) + 9);
+            assert_eq!(self.planning(calls, sheet, &room, name), due, "{name}");
+        }
+        let needed = layer_cells(tasks, points);
+        for (cells, due) in [(MOST_LAYER_CELLS + 9, 0), (needed, 0), (needed - 1, 22)] {
+            let layers = Layers::noise(rng, cells, cells);
+            assert_eq!(self.pricing(calls, sheet, &layers, name), due, "{name}");
+        }
     }
 
     pub fn reading(&mut self, calls: &Calls, sheet: &[u8], case: &str) -> u32 {
-        let due = self.compare(&calls.reads, &[], &format!("reading {case}"), |call| {
+        self.compare(&calls.reads, &[], &format!("reading {case}"), |call| {
             let (mut tasks, mut points) = (LENT, LENT);
             Answer {
                 number: read(call, sheet, &mut tasks, &mut points),
                 places: vec![("tasks", vec![tasks]), ("points", vec![points])],
             }
-        });
-        due.number
+        })
+        .number
     }
 
     pub fn validating(&mut self, calls: &Calls, sheet: &[u8], bytes: &[u8], case: &str) -> u32 {
-        let due = self.compare(
+        self.compare(
             &calls.validates,
             &[],
             &format!("validating {case}"),
@@ -86,13 +91,13 @@ impl Comparison {
                     places: vec![("cost", vec![cost])],
                 }
             },
-        );
-        due.number
+        )
+        .number
     }
 
     pub fn planning(&mut self, calls: &Calls, sheet: &[u8], room: &Room, case: &str) -> u32 {
         let triple_loops = &calls.triple_loops;
-        let due = self.compare(
+        self.compare(
             &calls.plans,
             triple_loops,
             &format!("planning {case}"),
@@ -107,8 +112,8 @@ impl Comparison {
                     ],
                 }
             },
-        );
-        due.number
+        )
+        .number
     }
 
     /// Cost and start are also those of the plan; a refusal is planning's unless it is 22.
@@ -149,7 +154,7 @@ impl Comparison {
             },
         };
         if let Some(difference) = planned.difference(due) {
-            println!("{case}: beside the plan it has {difference}");
+            println!("{case}: unlike planning it has {difference}");
             self.differences += 1;
         }
     }

@@ -8,7 +8,7 @@ use crate::report::{time, Row};
 /// rules and once over the doors. What C can do in other shapes is told beside it, with no goal.
 const PLANNING: f64 = 1.05;
 
-/// And to price, both of the best C and of its own planning.
+/// And to price; and there at most so much of what it takes to plan.
 const PRICING: f64 = 1.05;
 const PRICING_TO_PLANNING: f64 = 1.15;
 
@@ -79,11 +79,9 @@ fn print_fastest(row: &Row) {
 /// The ratio of the proved library to its own planning of the same sheet.
 fn print_to_planning(row: &Row, planning: &Row) {
     let ratio = row.ratio_to(planning.rattle());
-    let (what, most) = (
-        format!("Rattle takes {ratio:.2} of its planning"),
-        PRICING_TO_PLANNING,
-    );
-    print_goal(row, &what, &format!("at most {most}"), ratio <= most);
+    let what = format!("Rattle takes {ratio:.2} of its planning");
+    let goal = format!("at most {PRICING_TO_PLANNING}");
+    print_goal(row, &what, &goal, ratio <= PRICING_TO_PLANNING);
 }
 
 /// The ratio of the triple loop to the best C, both by the compilers that are wanted, if there is one.

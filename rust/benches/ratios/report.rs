@@ -142,7 +142,7 @@ fn print_ratios<'a>(rows: impl Iterator<Item = &'a Row>) {
 /// What pricing and planning by the proved library take, side by side: cells, and time.
 fn print_beside(subjects: &[&Subject], planning: &[Row], pricing: &[Row]) {
     println!(
-        "| Rattle | cells, planning | cells, pricing | pricing / planning | time, planning | time, pricing \
+        "| by Rattle | cells, planning | cells, pricing | pricing / planning | time, planning | time, pricing \
          | pricing / planning |"
     );
     println!("|---|---|---|---|---|---|---|");
