@@ -31,7 +31,11 @@ fn all_between<'a>(text: &'a str, before: &str, behind: &str) -> Vec<&'a str> {
 /// The source of the exports. A list that is lent is a pointer and a length in C.
 fn exported(source: &str) -> Calls {
     let calls = all_between(source, "pub extern \"C\" fn ", "\n    ensures");
-    calls.into_iter().map(exported_call).collect()
+    // Lifetimes are the source's own affair.
+    let plain = |call: &str| call.replace("<'a>", "").replace("&'a ", "&");
+    (calls.into_iter())
+        .map(|call| exported_call(&plain(call)))
+        .collect()
 }
 
 fn exported_call(call: &str) -> (String, Vec<Argument>) {
