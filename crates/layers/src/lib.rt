@@ -5,17 +5,19 @@ ghost use Prim.Native.Nat.{_-_, _%_, _^_, _≤_, _<_};
 ghost use Rattle.model.specs.TaskList.{size};
 ghost use Rattle.model.specs.Orders.{essential};
 ghost use Rattle.model.specs.SheetLayout.{decode};
+ghost use Rattle.rank.specs.Ranks.{Tabled};
 ghost use Rattle.layers.specs.Layers.{withRow, Layered, Shows, Kept, LayerFilled};
+use rank::Table;
 use view::MAX_DOORS;
 use view::View;
 
 // Writes the row of the essential list k into its layer, from the one below, which shows the lists with one task less.
-fn list_row(s: &[u8], v: View, k: u32, below: &[u64], here: &mut [u64])
-    requires { ⌜ Layered (now s) v (now below) (now here) × (k < 2 ^ decode (now s) .tasks) × (essential (decode (now s)) k ≡ true) × Shows (decode (now s)) (size (decode (now s) .tasks) k - 1) (now below) ⌝ }
+fn list_row(s: &[u8], v: View, table: &Table, k: u32, below: &[u64], here: &mut [u64])
+    requires { ⌜ Layered (now s) v (now below) (now here) × Tabled (now table) × (k < 2 ^ decode (now s) .tasks) × (essential (decode (now s)) k ≡ true) × Shows (decode (now s)) (size (decode (now s) .tasks) k - 1) (now below) ⌝ }
     ensures { λ _. ⌜ now (here .exit) ≡ withRow (decode (now (s .entry))) k (now (here .entry)) ⌝ }
 {
     let load = cost::load(s, v, k);
-    let rows = rank::rows(k, v.points);
+    let rows = rank::rows(table, k, v.points);
     let rests = rows.rests;
     let mut doors = [0u16; MAX_DOORS];
     let mut arrivals = [0u16; MAX_DOORS];
@@ -44,8 +46,8 @@ fn list_row(s: &[u8], v: View, k: u32, below: &[u64], here: &mut [u64])
 }
 
 // Writes the rows of the essential lists of m tasks, in the order of their numbers.
-fn size_rows(s: &[u8], v: View, m: u16, below: &[u64], here: &mut [u64])
-    requires { ⌜ Layered (now s) v (now below) (now here) × (1 ≤ m) × (m ≤ decode (now s) .tasks) × Shows (decode (now s)) (m - 1) (now below) ⌝ }
+fn size_rows(s: &[u8], v: View, table: &Table, m: u16, below: &[u64], here: &mut [u64])
+    requires { ⌜ Layered (now s) v (now below) (now here) × Tabled (now table) × (1 ≤ m) × (m ≤ decode (now s) .tasks) × Shows (decode (now s)) (m - 1) (now below) ⌝ }
     ensures shown { λ _. ⌜ Shows (decode (now (s .entry))) m (now (here .exit)) ⌝ }
     ensures kept { λ _. ⌜ Kept (decode (now (s .entry))) (m % 2) (now (here .entry)) (now (here .exit)) ⌝ }
 {
@@ -53,7 +55,7 @@ fn size_rows(s: &[u8], v: View, m: u16, below: &[u64], here: &mut [u64])
     let mut k = tasklist::full(m);
     while k < lists {
         if table::essential(s, v, k) {
-            list_row(s, v, k, below, here);
+            list_row(s, v, table, k, below, here);
         }
         k = rank::next(k);
     }
@@ -67,14 +69,15 @@ pub fn fill(s: &[u8], v: View, even: &mut [u64], odd: &mut [u64])
 {
     let points = v.points as usize;
     table::end_row(s, v, &mut even[..points]);
+    let table = rank::pascal();
     let tasks = v.tasks;
     let mut m: u16 = 0;
     while m < tasks {
         m = m + 1;
         if m % 2 == 0 {
-            size_rows(s, v, m, odd, even);
+            size_rows(s, v, &table, m, odd, even);
         } else {
-            size_rows(s, v, m, even, odd);
+            size_rows(s, v, &table, m, even, odd);
         }
     }
 }

@@ -1,7 +1,7 @@
 -- The rank of a list by counting: lists of one size are counted by binomials, from the highest task down, and so is the rank. Assumes nothing.
-use Rattle.model.proofs.Basics.{_≡_, refl, sym, ap₂, _∙_, Bool, true, false, cond, _&&_, ℕ, zero, suc, _+_, _-_, _%_, _^_, _≤_, _<_}
-use Rattle.model.proofs.Basics.{arith, eqb, eqb·suc-suc, ltb, eq-eqb, ne-eqb, lt-ltb, le-ltb, ltb-true, ltb-false, and-true, and-false, add-zero}
-use Rattle.model.proofs.Basics.{pow-mono, pow-pos, lt-of-lt-of-le}
+use Rattle.model.proofs.Basics.{_≡_, refl, sym, ap₂, _∙_, Bool, true, false, cond, _&&_, ℕ, zero, suc, _+_, _-_, _%_, _^_, _≤_, _<_, arith, eqb}
+use Rattle.model.proofs.Basics.{eqb·suc-suc, ltb, eq-eqb, ne-eqb, lt-ltb, le-ltb, ltb-true, ltb-false, and-true, and-false, add-zero, pow-mono}
+use Rattle.model.proofs.Basics.{pow-pos, lt-of-lt-of-le}
 use native.Mathlib.Nat.{mod-eq-of-lt}
 use Rattle.model.specs.{sumBelow, countBelow, bit, full, size}
 use Rattle.model.proofs.Tools.Tests.{by-test, by-last}
@@ -58,7 +58,7 @@ rank-is n K h =
     let above : sumBelow (2 ^ n - K) (λ i. f (K + i)) ≡ 0 = sum-none (2 ^ n - K) _ (λ i l. rw (le-ltb (K + i) K (omega arith), and-false)) in
     omega (arith, rw all at (sum-split K (2 ^ n - K) f))
 
--- the lists to K that have K's size are no more than to L, which has that size too
+-- K is of the size, and below L
 pub rank-rises : (n K L : ℕ) → K < L → L < 2 ^ n → size n K ≡ size n L → rank n K < rank n L
 unfolding countBelow
 rank-rises n K L h l e =
@@ -77,9 +77,9 @@ rank-below n K h =
 pub rank-most : (n K : ℕ) → K < 2 ^ n → rank n K < mostLists n
 rank-most n K h = omega (arith, rank-below n K h, binomial-most n (size n K))
 
--- no more lists than there are numbers below
+-- no more lists than there are numbers below K
 pub rank-le : (n K : ℕ) → K < 2 ^ n → rank n K ≤ K
-rank-le n K h = rw (rank-is n K (omega arith)) (omega (arith, sum-le K 1 (λ L. cond (eqb (size n L) (size n K)) 1 0) (λ L l. at-most-one (eqb (size n L) (size n K)))))
+rank-le n K h = rw (rank-is n K (omega arith)) (omega (arith, sum-le K 1 _ (λ L l. at-most-one (eqb (size n L) (size n K)))))
   where
     at-most-one : (b : Bool) → cond b 1 0 ≤ 1
     at-most-one true = omega arith
@@ -113,7 +113,7 @@ pub part-cong : (K L j : ℕ) → ((i : ℕ) → i < suc j → bit K i ≡ bit L
 unfolding rankPart
 part-cong K L j h = rw (h j (omega arith), size-cong j K L (λ i l. h i (omega arith)))
 
-pub parts-cong : (n K L : ℕ) → ((j : ℕ) → j < n → bit K j ≡ bit L j) → binomialRank n K ≡ binomialRank n L
+parts-cong : (n K L : ℕ) → ((j : ℕ) → j < n → bit K j ≡ bit L j) → binomialRank n K ≡ binomialRank n L
 unfolding binomialRank
 parts-cong n K L h = sum-cong n _ _ (λ j l. part-cong K L j (λ i b. h i (omega arith)))
 

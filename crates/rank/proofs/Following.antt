@@ -1,7 +1,7 @@
 -- The next list of the same size: of K = (2 q + 1) 2 ^ b, with q + 1 = (2 c + 1) 2 ^ e, it is (2 c + 1) 2 ^ (e + b + 1) + 2 ^ e - 1. Up to the multiple of
 -- 2 ^ (b + 1) that K is carried to, the lists have K's tasks and more, and from there to the next one fewer. Assumes nothing.
-use Rattle.model.proofs.Basics.{_≡_, refl, sym, ap, _∙_, ℕ, zero, suc, _+_, _-_, _*_, _/_, _%_, _^_, _≤_, _<_, zero-add, suc-add, mul-one, arith}
-use Rattle.model.proofs.Basics.{ltb, ltb-true, ltb-false, pow-pos, pow-mono, lt-of-lt-of-le, ap₂}
+use Rattle.model.proofs.Basics.{_≡_, refl, sym, ap, _∙_, ℕ, zero, suc, _+_, _-_, _*_, _/_, _%_, _^_, _≤_, _<_, zero-add, suc-add, mul-one, arith, ltb}
+use Rattle.model.proofs.Basics.{ltb-true, ltb-false, pow-pos, pow-mono, lt-of-lt-of-le, ap₂}
 use Rattle.model.specs.{size}
 use Rattle.model.proofs.Tools.Tests.{by-test, by-last}
 use Rattle.model.proofs.TaskLists.Masks.{size-is, size-zero}
@@ -209,3 +209,9 @@ next-found w K p h =
 -- among the lists of n tasks none of K's size lies between
 pub none-among : (n w K L : ℕ) → n ≤ w → NextOfSize w K L → K < 2 ^ n → (M : ℕ) → K < M → M < L → M < 2 ^ n → size n M ≡ size n K → ⊥
 none-among n w K L h s k M a l m e = s .none-between M a l (size-narrow n w M m h ∙ e ∙ sym (size-narrow n w K k h))
+
+-- only one list comes next
+pub one-next : (n K L M : ℕ) → NextOfSize n K L → NextOfSize n K M → L ≡ M
+one-next n K L M s t = by-test (ltb L M)
+    (λ w. absurd (t .none-between L (s .above) (ltb-true L M w) (s .same)))
+    (λ w. by-last M L (omega (arith, ltb-false L M w)) sym (λ v. absurd (s .none-between M (t .above) v (t .same))))

@@ -2,8 +2,9 @@ pub mod Sums
 pub mod Sizes
 pub mod Binomials
 pub mod Counting
-pub mod Pascal
+pub mod PascalsRule
 pub mod Ends
 pub mod Ranking
 pub mod Rests
 pub mod Following
+pub mod Acceptance

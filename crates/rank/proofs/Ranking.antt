@@ -23,7 +23,7 @@ pub record Ranking (n K left sum i : ℕ) : Type 0 where
   pub summed : sum + sumBelow n (added K left) ≡ binomialRank n K
 
 -- what t adds as the i-th task, from 0
-pub part-is : (K t i : ℕ) → bit K t ≡ 1 → size t K ≡ i → rankPart K t ≡ binomial t (suc i)
+part-is : (K t i : ℕ) → bit K t ≡ 1 → size t K ≡ i → rankPart K t ≡ binomial t (suc i)
 unfolding rankPart
 part-is K t i h e = rw (h, e)
 

@@ -1,8 +1,7 @@
 -- The ranks of K without each of its tasks, from the highest down: without t, the tasks above t stand one place lower and those below it where they are in K.
 -- The sum has the tasks that are done at their lower place, and those that are left where they are. Assumes nothing.
 use Rattle.model.proofs.Basics.{_≡_, refl, sym, ap, _∙_, _≢_, cond, List, [], _∷_, ℕ, suc, _+_, _-_, _*_, _%_, _^_, _≤_, _<_, mul-le-mul-right, arith}
-use Rattle.model.proofs.Basics.{set}
-use Rattle.model.proofs.Basics.{lt-of-le-of-lt, mod-lt, pow-pos, eqb, eqb-true, eqb-false, ltb, ltb-true, ltb-false}
+use Rattle.model.proofs.Basics.{set, lt-of-le-of-lt, mod-lt, pow-pos, eqb, eqb-true, eqb-false, ltb, ltb-true, ltb-false}
 use Rattle.model.specs.{sumBelow, mapBelow, bit, member, without, size}
 use Rattle.model.proofs.Tools.Tests.{by-test}
 use Rattle.model.proofs.Tools.Folds.{sum-cong, flat-cong}
@@ -26,6 +25,7 @@ lowered K j = cond (member K j) (binomial j (size j K)) 0
 abbrev mixed : ℕ → ℕ → ℕ → ℕ
 mixed K left j = cond (member left j) (rankPart K j) (lowered K j)
 
+-- of K the tasks up to some place are left, i of them, and the sum has each of the others one place lower
 pub record Lowering (n K left sum i : ℕ) : Type 0 where
   pub listed : K < 2 ^ n
   pub small : left < 2 ^ n
@@ -58,7 +58,7 @@ module _ {n K left sum i : ℕ} (s : Lowering n K left sum i) {t : ℕ} (l : Hig
   place : i ≡ suc (size t K)
   place = omega (arith, s .counted, highest-size n l below, size-cong t left K (λ j h. s .same j t (omega arith) (l .task)))
 
-  -- without t
+  -- at every other task the sum has what it adds to the rank of K without t
   others : (j : ℕ) → j < n → j ≢ t → mixed K left j ≡ rankPart (without K t) j
   unfolding rankPart
   others j h o = by-test (ltb j t)
@@ -68,7 +68,7 @@ module _ {n K left sum i : ℕ} (s : Lowering n K left sum i) {t : ℕ} (l : Hig
       rw (bit-above (suc t) j left (l .within) a, without-other K t j o, size-without j K t a task))
 
   -- without t K has the rank that is left of the sum
-  pub rest-is : sum ≡ rank n (without K t) + binomial t i
+  rest-is : sum ≡ rank n (without K t) + binomial t i
   unfolding binomialRank rankPart
   rest-is =
       let at : mixed K left t ≡ rankPart (without K t) t + binomial t i = rw (l .task, task, without-same K t, place) (omega arith) in
@@ -131,7 +131,7 @@ first-without n K t h = same-members n _ _ (mod-lt (without K t) (pow-pos n)) (l
         (λ w. rw (eqb-true j t w, without-same K t, without-same (K % 2 ^ n) t))
         (λ w. let o : j ≢ t = eqb-false j t w in rw (without-other K t j o, without-other (K % 2 ^ n) t j o) (sym (bit-first n K j l)))
 
-pub rank-without : (K t : ℕ) → t < maxRanked → rankOf (without K t) ≡ rank maxRanked (without (K % 2 ^ maxRanked) t)
+rank-without : (K t : ℕ) → t < maxRanked → rankOf (without K t) ≡ rank maxRanked (without (K % 2 ^ maxRanked) t)
 unfolding rankOf
 rank-without K t h = ap (rank maxRanked) (first-without maxRanked K t h)
 
@@ -152,9 +152,11 @@ rows-none P K own e = rows-cong _ _ (λ j l. e ∙ by-bit K j
     (λ w. rw (bit-first maxRanked K j l, w, without-none K j w))
     (λ w. rw (bit-first maxRanked K j l, w)))
 
-pub rows-one : (P K left t v : ℕ) → t < maxRanked → v ≡ rankOf (without K t) * P → set (rowsWhile P K left) t v ≡ rowsWhile P K (without left t)
-rows-one P K left t v h e =
-    let now : v ≡ rowWhile P K (without left t) t = rw (without-same left t) e in
+-- r is the rank that the code has of the list without t
+pub rows-one : (P K left t r : ℕ) → t < maxRanked → r ≡ rank maxRanked (without (K % 2 ^ maxRanked) t)
+    → set (rowsWhile P K left) t (r * P) ≡ rowsWhile P K (without left t)
+rows-one P K left t r h e =
+    let now : r * P ≡ rowWhile P K (without left t) t = rw (without-same left t, rank-without K t h) (ap (λ (x : ℕ). x * P) e) in
     rw now (map-set maxRanked t (rowWhile P K left) (rowWhile P K (without left t)) h (λ j o. rw (without-other left t j o)))
 
 pub rows-all : (P K left : ℕ) → left ≡ 0 → rowsWhile P K left ≡ restRows P K

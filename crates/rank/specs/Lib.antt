@@ -1,2 +1,3 @@
 pub mod Binomials
 pub mod Ranks
+pub mod Examples

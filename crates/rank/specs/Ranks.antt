@@ -1,9 +1,10 @@
 -- The rank of a list among those of its size (02, Req 01): by counting, which is what it means, and by binomials. Assumes nothing.
 use mathlib.Core.Path.{_≡_}
 use mathlib.Core.Bool.{Bool, cond, _&&_}
-use mathlib.Core.List.{List}
-use Prim.Native.Nat.{ℕ, suc, _*_, _%_, _^_, _<_}
+use mathlib.Core.List.{List, []}
+use Prim.Native.Nat.{ℕ, suc, _*_, _%_, _^_, _≤_, _<_}
 use lib.Dec.{eqb, ltb, leb}
+use lib.ListN.{getD}
 use Rattle.model.specs.Folds.{sumBelow, countBelow, mapBelow}
 use Rattle.model.specs.TaskList.{member, without, size}
 use Rattle.rank.specs.Binomials.{binomial, mostLists}
@@ -29,6 +30,10 @@ binomialRank n K = sumBelow n (rankPart K)
 -- the most tasks that its table of binomials serves: n and k from 0 to 16
 abbrev pub maxRanked : ℕ
 maxRanked = 16
+
+-- the table has the binomials: n over k in row n at place k
+unfoldable pub Tabled : List (List ℕ) → Type 0
+Tabled table = (n k : ℕ) → n ≤ maxRanked → k ≤ maxRanked → getD (getD table n []) k 0 ≡ binomial n k
 
 -- the rank of a mask: that of the list of its first 16 tasks
 unfoldable pub rankOf : ℕ → ℕ

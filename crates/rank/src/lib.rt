@@ -1,10 +1,10 @@
-// The rank of a list of tasks, the number of lists of its size with a smaller number, from a table of binomials; and the lists of one size, one after the other.
+// The rank of a list of tasks, the number of lists of its size with a smaller number, from a table of binomials; and the next list of the same size.
 ghost use mathlib.Core.Path.{_≡_};
 ghost use Prim.Native.Nat.{_*_, _^_, _≤_, _<_};
 ghost use Rattle.model.specs.TaskList.{size};
 ghost use Rattle.model.specs.Method.{maskBits};
 ghost use Rattle.rank.specs.Binomials.{binomial};
-ghost use Rattle.rank.specs.Ranks.{maxRanked, rankOf, mostListsOf, restRows, NextOfSize};
+ghost use Rattle.rank.specs.Ranks.{maxRanked, Tabled, rankOf, mostListsOf, restRows, NextOfSize};
 
 pub const MAX_TASKS: usize = 16;
 
@@ -160,12 +160,22 @@ const BINOMIALS: [[u32; WIDTH]; WIDTH] = [
     ],
 ];
 
+// n over k in row n at place k.
+pub type Table = [[u32; WIDTH]; WIDTH];
+
+// The table. What looks into it is lent it, since a constant array is made anew wherever the code names it.
+pub fn pascal() -> Table
+    ensures { λ r. ⌜ Tabled r ⌝ }
+{
+    BINOMIALS
+}
+
 // n over k.
-fn binomial(n: usize, k: usize) -> u32
-    requires { ⌜ (n ≤ maxRanked) × (k ≤ maxRanked) ⌝ }
+fn binomial(table: &Table, n: usize, k: usize) -> u32
+    requires { ⌜ Tabled (now table) × ((n ≤ maxRanked) × (k ≤ maxRanked)) ⌝ }
     ensures { λ r. ⌜ r ≡ binomial n k ⌝ }
 {
-    BINOMIALS[n][k]
+    table[n][k]
 }
 
 // The rank of a list, and its number of tasks.
@@ -175,7 +185,8 @@ pub struct Ranked {
 }
 
 // The rank of list k, by the tasks below 16: for each of them, the lowest first, t over the number of tasks so far.
-pub fn rank(k: u32) -> Ranked
+pub fn rank(table: &Table, k: u32) -> Ranked
+    requires { ⌜ Tabled (now table) ⌝ }
     ensures rank { λ r. ⌜ r .rank ≡ rankOf k ⌝ }
     ensures size { λ r. ⌜ r .size ≡ size maxRanked k ⌝ }
 {
@@ -185,7 +196,7 @@ pub fn rank(k: u32) -> Ranked
     while left != 0 {
         let t = u32::trailing_zeros(left);
         size = size + 1;
-        rank = rank + binomial(t as usize, size);
+        rank = rank + binomial(table, t as usize, size);
         left = tasklist::without(left, t as u16);
     }
     Ranked {
@@ -202,11 +213,12 @@ pub struct ListRows {
 
 // The rows of list k, each of so many cells. Of the list without task t, the tasks above t stand one place lower: so from the highest task down the sum has
 // each task above at its lower place, and those below where they are in k.
-pub fn rows(k: u32, points: u16) -> ListRows
+pub fn rows(table: &Table, k: u32, points: u16) -> ListRows
+    requires { ⌜ Tabled (now table) ⌝ }
     ensures own { λ r. ⌜ r .own ≡ rankOf k * points ⌝ }
     ensures rests { λ r. ⌜ r .rests ≡ restRows points k ⌝ }
 {
-    let all = rank(k);
+    let all = rank(table, k);
     let apart = points as usize;
     let own = all.rank as usize * apart;
     let mut rests = [own; MAX_TASKS];
@@ -215,10 +227,10 @@ pub fn rows(k: u32, points: u16) -> ListRows
     let mut i = all.size;
     while left != 0 {
         let t = 31 - u32::leading_zeros(left);
-        let rest = sum - binomial(t as usize, i);
+        let rest = sum - binomial(table, t as usize, i);
         rests[t as usize] = rest as usize * apart;
         i = i - 1;
-        sum = rest + binomial(t as usize, i);
+        sum = rest + binomial(table, t as usize, i);
         left = tasklist::without(left, t as u16);
     }
     ListRows {
@@ -234,10 +246,11 @@ pub fn most_lists(n: u16) -> u32
     if n as usize > MAX_TASKS {
         return 0;
     }
+    let table = pascal();
     let mut most: u32 = 0;
     let mut k: usize = 0;
     while k <= n as usize {
-        let lists = binomial(n as usize, k);
+        let lists = binomial(&table, n as usize, k);
         if most < lists {
             most = lists;
         }

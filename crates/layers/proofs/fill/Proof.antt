@@ -9,10 +9,10 @@ use Rattle.layers.proofs.fill.Statement.{statement}
 use Rattle.layers.proofs.fill.Tie as tie
 
 abbrev Inv-loop : tie.InvT-loop
-Inv-loop s v even₀ odd₀ points tasks m₀ even odd m = (tasks ≡ decode s .tasks) × Stage (decode s) m even₀ odd₀ even odd
+Inv-loop s v even₀ odd₀ points table tasks m₀ even odd m = (tasks ≡ decode s .tasks) × Stage (decode s) m even₀ odd₀ even odd
 
 abbrev μ-loop : tie.MeasureT-loop
-μ-loop s v even₀ odd₀ points tasks m₀ even odd m = tasks - m
+μ-loop s v even₀ odd₀ points table tasks m₀ even odd m = tasks - m
 
 -- ---- parities
 
@@ -25,20 +25,20 @@ odd-before m n = omega (arith, odd-here m n)
 
 -- ---- places of the code, and what is known there
 
-abbrev entered : tie.After-slice-known3 Inv-loop μ-loop → tie.Start Inv-loop μ-loop
-entered c = c .before .before .before .before .before .before .before .before
+abbrev entered : tie.After-pascal Inv-loop μ-loop → tie.Start Inv-loop μ-loop
+entered c = c .before .before .before .before .before .before .before .before .before
 
 first-room : (c : tie.Start Inv-loop μ-loop) → c .args .v .points ≤ length (c .args .even .now)
 first-room c = rw (points-are (c .pre .sheet .view)) (row-within _ (c .pre .room-below))
 
 -- the end costs are written
-begun : (c : tie.After-slice-known3 Inv-loop μ-loop) →
+begun : (c : tie.After-pascal Inv-loop μ-loop) →
     let a = entered c .args in
-    Stage (decode (a .s .now)) 0 (a .even .now) (a .odd .now) (c .before .before .end-row .last .1 .1 .0 ++ drop (a .v .points) (a .even .now)) (a .odd .now)
+    Stage (decode (a .s .now)) 0 (a .even .now) (a .odd .now) (c .before .before .before .end-row .last .1 .1 .0 ++ drop (a .v .points) (a .even .now)) (a .odd .now)
 begun c =
     let s = entered c in
     let p = s .pre in
-    first-stage _ _ _ (p .sheet .plannable .ranges) (p .room-below) (points-are (p .sheet .view)) (c .before .before .end-row .ensures)
+    first-stage _ _ _ (p .sheet .plannable .ranges) (p .room-below) (points-are (p .sheet .view)) (c .before .before .before .end-row .ensures)
 
 -- and both layers have room still
 rooms : (c : tie.At-loop Inv-loop μ-loop) →
@@ -64,11 +64,12 @@ loop-holds c = (tasks-are (entered c .pre .sheet .view), from-here (begun c))
 -- an even size, from the odd layer
 size-rows-requires : tie.Need-size-rows-requires Inv-loop μ-loop
 size-rows-requires c κs =
-    let l = c .before .before .before .before in
+    let l = c .before .before .before .before .before in
     let h = l .loop .inv in
-    let more = c .before .before .before .loop-test .taken in
-    let z = c .before .before .if1 .taken in (
+    let more = c .before .before .before .before .loop-test .taken in
+    let z = c .before .before .before .if1 .taken in (
       record { sheet = entered (l .before) .pre .sheet; room-below = rooms l .1; room-here = rooms l .0 },
+      l .before .pascal .ensures,
       omega arith,
       omega (arith, h .0),
       rw add-sub-cancel (h .1 .odds (omega arith)),
@@ -76,7 +77,7 @@ size-rows-requires c κs =
 
 loop-again : tie.Need-loop-again Inv-loop μ-loop
 loop-again c =
-    let t = c .before .before .before .before .before in
+    let t = c .before .before .before .before .before .before in
     let h = t .before .before .loop .inv in
     let e = c .before .before .size-rows .ensures in
     (h .0, even-stage (h .1) (omega (arith, h .0, t .before .loop-test .taken)) (t .if1 .taken) (e .0) (e .1))
@@ -84,11 +85,12 @@ loop-again c =
 -- an odd size, from the even layer
 size-rows-requires-2 : tie.Need-size-rows-requires-2 Inv-loop μ-loop
 size-rows-requires-2 c κs =
-    let l = c .before .before .before .before in
+    let l = c .before .before .before .before .before in
     let h = l .loop .inv in
-    let more = c .before .before .before .loop-test .taken in
-    let z = c .before .before .if1 .left in (
+    let more = c .before .before .before .before .loop-test .taken in
+    let z = c .before .before .before .if1 .left in (
       record { sheet = entered (l .before) .pre .sheet; room-below = rooms l .0; room-here = rooms l .1 },
+      l .before .pascal .ensures,
       omega arith,
       omega (arith, h .0),
       rw add-sub-cancel (h .1 .evens (odd-before (l .loop .m) z)),
@@ -96,7 +98,7 @@ size-rows-requires-2 c κs =
 
 loop-again-2 : tie.Need-loop-again-2 Inv-loop μ-loop
 loop-again-2 c =
-    let t = c .before .before .before .before .before in
+    let t = c .before .before .before .before .before .before in
     let h = t .before .before .loop .inv in
     let e = c .before .before .size-rows2 .ensures in
     (h .0, odd-stage (h .1) (omega (arith, h .0, t .before .loop-test .taken)) (odd-here (t .before .before .loop .m) (t .if1 .left)) (e .0) (e .1))
@@ -116,5 +118,5 @@ returns c =
 
 pub fill-spec : {M : Type 1} → statement M
 fill-spec = tie.close (tie.spec Inv-loop μ-loop (λ c. search needs) (λ c. first-room (c .before .before .before .before)) slice-aggregate-end-row
-    end-row-requires loop-holds (λ c. search needs) size-rows-requires (λ c. search needs) loop-again size-rows-requires-2
+    end-row-requires (λ c κs. search needs) loop-holds (λ c. search needs) size-rows-requires (λ c. search needs) loop-again size-rows-requires-2
     (λ c. search needs) loop-again-2 same-length same-length-2 returns)

@@ -27,13 +27,13 @@ gathered c = c .before .before .before .before
 
 -- the row is among the cells, and begins where the code has it
 room : (c : tie.Start) → let S = decode (c .args .s .now) in rank (S .tasks) (c .args .k) * S .points + S .points ≤ length (c .args .here .now)
-room c = omega (arith, row-room (decode (c .args .s .now)) (c .args .here .now) (c .args .k) (c .pre .1) (c .pre .0 .room-here))
+room c = omega (arith, row-room (decode (c .args .s .now)) (c .args .here .now) (c .args .k) (c .pre .2) (c .pre .0 .room-here))
 
 own-is : (c : tie.After-rows) → let S = decode (entered c .args .s .now) in c .rows .result .own ≡ rank (S .tasks) (entered c .args .k) * S .points
 own-is c =
     let s = entered c in
     let f = s .pre .0 .sheet in
-    c .rows .ensures .0 ∙ ap₂ _*_ (rank-of _ (s .args .k) (omega (arith, f .counts .tasks)) (s .pre .1)) (points-are (f .view))
+    c .rows .ensures .0 ∙ ap₂ _*_ (rank-of _ (s .args .k) (omega (arith, f .counts .tasks)) (s .pre .2)) (points-are (f .view))
 
 held : (c : tie.After-rows) → let a = entered c .args in c .rows .result .own + a .v .points ≤ length (a .here .now)
 held c = let s = entered c in row-ends _ _ (s .args .here .now) (room s) (own-is c) (points-are (s .pre .0 .sheet .view))
@@ -48,13 +48,13 @@ is-open c =
     let a = entered c .args in
     let p = entered c .pre in
     let f = p .0 .sheet in
-    let m = essential-size (decode (a .s .now)) (a .k) (p .1) (p .2) in
+    let m = essential-size (decode (a .s .now)) (a .k) (p .2) (p .3) in
     record {
       sheet = f;
       bytes = are-bytes (a .s .now) (c .before .before .before .before .shared-slice-known .given);
-      list = p .1;
-      ess = p .2;
-      rests = rests-stand (a .k) _ (f .plannable .ranges) (f .counts .tasks) (p .1) (p .2) (omega (arith, m .1)) (p .0 .room-below) (p .3);
+      list = p .2;
+      ess = p .3;
+      rests = rests-stand (a .k) _ (f .plannable .ranges) (f .counts .tasks) (p .2) (p .3) (omega (arith, m .1)) (p .0 .room-below) (p .4);
     }
 
 rests-are : (c : tie.After-rows) → let a = entered c .args in c .rows .result .rests ≡ restRows (decode (a .s .now) .points) (a .k)
@@ -73,7 +73,7 @@ holds c = let r = begun (c .before) in hold (is-open r) (rests-are r) _ _ _ (r .
 -- ---- the needs
 
 load-requires : tie.Need-load-requires
-load-requires c κs = let p = c .before .before .before .pre in (p .0 .sheet .view, load-asks (p .0 .sheet) (p .1) (p .2))
+load-requires c κs = let p = c .before .before .before .pre in (p .0 .sheet .view, load-asks (p .0 .sheet) (p .2) (p .3))
 
 gather-requires : tie.Need-gather-requires
 gather-requires c κs = gather-asks (is-open (begun c)) (rests-are (begun c))
@@ -122,7 +122,7 @@ returns c =
     (row-of (is-open r) (holds g) (c .before .before .row .ensures))
 
 pub list-row-spec : {M : Type 1} → statement M
-list-row-spec = tie.close (tie.spec load-requires (λ c κs. search needs) (λ c. search needs) (λ c. search needs) (λ c. search needs)
+list-row-spec = tie.close (tie.spec load-requires (λ c κs. c .before .before .before .before .pre .1) (λ c. search needs) (λ c. search needs) (λ c. search needs)
     (λ c. search needs) gather-requires (λ c. search needs) add-end array-share-prefix-arrivals slice-aggregate-row
     array-share-prefix-parts slice-aggregate-row-2 mul-row (λ c. search needs) (λ c. search needs) part-row-end row-requires
     (λ c. search needs) returns)

@@ -10,10 +10,10 @@ use Rattle.layers.proofs.size_rows.Statement.{statement}
 use Rattle.layers.proofs.size_rows.Tie as tie
 
 abbrev Inv-loop : tie.InvT-loop
-Inv-loop s v m below here₀ lists k₀ here k = Filling (decode s) m here₀ lists here k
+Inv-loop s v table m below here₀ lists k₀ here k = Filling (decode s) m here₀ lists here k
 
 abbrev μ-loop : tie.MeasureT-loop
-μ-loop s v m below here₀ lists k₀ here k = lists - k
+μ-loop s v table m below here₀ lists k₀ here k = lists - k
 
 -- ---- places of the code, and what is known there
 
@@ -25,12 +25,12 @@ all-lists c =
     let f = entered c .pre .0 .sheet in c .before .lists .ensures ∙ ap listsOf (tasks-are (f .view)) ∙ lists-of _ (tasks-listed _ (f .counts .tasks))
 
 first-list : (c : tie.After-full Inv-loop μ-loop) → c .full .result ≡ full (entered c .args .m)
-first-list c = let p = entered c .pre in c .full .ensures ∙ full-of _ (tasks-listed _ (omega (arith, p .2, p .0 .sheet .counts .tasks)))
+first-list c = let p = entered c .pre in c .full .ensures ∙ full-of _ (tasks-listed _ (omega (arith, p .3, p .0 .sheet .counts .tasks)))
 
 -- ---- the needs
 
 loop-holds : tie.Need-loop-holds Inv-loop μ-loop
-loop-holds c = let p = entered c .pre in rw (first-list c) (begin (all-lists c) (p .0 .sheet .counts .tasks) (p .0 .room-here) (p .1) (p .2))
+loop-holds c = let p = entered c .pre in rw (first-list c) (begin (all-lists c) (p .0 .sheet .counts .tasks) (p .0 .room-here) (p .2) (p .3))
 
 list-row-requires : tie.Need-list-row-requires Inv-loop μ-loop
 list-row-requires c κs =
@@ -40,9 +40,10 @@ list-row-requires c κs =
     let h = l .loop .inv in
     let more = e .before .loop-test .taken in (
       record { sheet = p .0 .sheet; room-below = p .0 .room-below; room-here = layer-room h },
+      p .1,
       omega (arith, h .all),
       sym (e .essential .ensures) ∙ c .before .if1 .taken,
-      rw (h .of-size more) (p .3),
+      rw (h .of-size more) (p .4),
     )
 
 next-requires : tie.Need-next-requires Inv-loop μ-loop

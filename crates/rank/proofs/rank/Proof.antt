@@ -10,10 +10,10 @@ use Rattle.rank.proofs.rank.Statement.{statement}
 use Rattle.rank.proofs.rank.Tie as tie
 
 abbrev Inv-loop : tie.InvT-loop
-Inv-loop k left₀ rank₀ size₀ left rank size = Ranking maxRanked (k % 2 ^ maxRanked) left rank size
+Inv-loop table k left₀ rank₀ size₀ left rank size = Ranking maxRanked (k % 2 ^ maxRanked) left rank size
 
 abbrev μ-loop : tie.MeasureT-loop
-μ-loop k left₀ rank₀ size₀ left rank size = left
+μ-loop table k left₀ rank₀ size₀ left rank size = left
 
 loop-holds : tie.Need-loop-holds Inv-loop μ-loop
 loop-holds c = none-ranked _ _ (omega arith)
@@ -29,7 +29,7 @@ cast-binomial : tie.Need-cast-binomial Inv-loop μ-loop
 cast-binomial c = omega (arith, trailing-le maskBits (c .before .loop .left))
 
 binomial-requires : tie.Need-binomial-requires Inv-loop μ-loop
-binomial-requires c κs = let f = rank-fits (c .before .loop .inv) (task c) in (f .0, f .1)
+binomial-requires c κs = let f = rank-fits (c .before .loop .inv) (task c) in (c .before .before .pre, (f .0, f .1))
 
 add-rank : tie.Need-add-rank Inv-loop μ-loop
 add-rank c = omega (arith, rank-fits (c .before .before .loop .inv) (task (c .before)) .2, c .binomial .ensures)

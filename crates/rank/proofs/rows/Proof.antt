@@ -5,21 +5,22 @@ use lib.Count.{leadingZeros}
 use Rattle.rank.specs.Ranks.{rank, maxRanked, rankOf}
 use Rattle.rank.proofs.Binomials.{binomial-small}
 use Rattle.rank.proofs.Ends.{leading-less, Highest, highest, without-less, size-mask}
-use Rattle.rank.proofs.Rests.{Lowering, none-lowered, one-lowered, rest-now, lower-fits, rank-without, rank-small, row-fits}
-use Rattle.rank.proofs.Rests.{rowsWhile, rows-none, rows-one, rows-all}
+use Rattle.rank.proofs.Rests.{Lowering, none-lowered, one-lowered, rest-now, lower-fits, rank-small, row-fits, rowsWhile, rows-none, rows-one}
+use Rattle.rank.proofs.Rests.{rows-all}
 use Rattle.rank.proofs.rows.Statement.{statement}
 use Rattle.rank.proofs.rows.Tie as tie
 
 abbrev Inv-loop : tie.InvT-loop
-Inv-loop k points apart own rests₀ left₀ sum₀ i₀ rests left sum i =
+Inv-loop table k points apart own rests₀ left₀ sum₀ i₀ rests left sum i =
     (rests ≡ rowsWhile points k left) × Lowering maxRanked (k % 2 ^ maxRanked) left sum i
 
 abbrev μ-loop : tie.MeasureT-loop
-μ-loop k points apart own rests₀ left₀ sum₀ i₀ rests left sum i = left
+μ-loop table k points apart own rests₀ left₀ sum₀ i₀ rests left sum i = left
 
 mul-own : tie.Need-mul-own Inv-loop μ-loop
 mul-own c =
-    let r : c .before .rank .result .rank * c .before .before .args .points < 2 ^ 32 = row-fits (rw (c .before .rank .ensures .0) (rank-small _)) (omega arith) in
+    let k = c .before .rank in
+    let r : k .result .rank * c .before .before .args .points < 2 ^ 32 = row-fits (rw (k .ensures .0) (rank-small _)) (omega arith) in
     record { fits = omega arith }
 
 -- before the first turn every row is the list's own
@@ -45,7 +46,7 @@ placed : (c : tie.In-loop Inv-loop μ-loop) →
 placed c = lower-fits (c .before .loop .inv .1) (task c)
 
 binomial-requires : tie.Need-binomial-requires Inv-loop μ-loop
-binomial-requires c κs = let p = placed c in (omega arith, p .1)
+binomial-requires c κs = let p = placed c in (c .before .before .before .before .pre, (omega arith, p .1))
 
 -- the rank of the list without it
 rest : (c : tie.After-binomial Inv-loop μ-loop) →
@@ -69,10 +70,10 @@ array-write-rests : tie.Need-array-write-rests Inv-loop μ-loop
 array-write-rests c = placed (c .before) .0
 
 sub-i : tie.Need-sub-i Inv-loop μ-loop
-sub-i c = placed (c .before) .2
+sub-i c = omega (arith, placed (c .before) .2)
 
 binomial-requires-2 : tie.Need-binomial-requires-2 Inv-loop μ-loop
-binomial-requires-2 c κs = let p = placed (c .before) in (omega arith, omega arith)
+binomial-requires-2 c κs = let p = placed (c .before) in (c .before .before .before .before .before .pre, (omega arith, omega arith))
 
 add-sum : tie.Need-add-sum Inv-loop μ-loop
 add-sum c =
@@ -89,7 +90,7 @@ loop-again c =
     let a = c .before .before .before .before .before .before .before .args in
     let r = rest (c .before .before) in
     rw (c .without .ensures, l .inv .0, c .before .binomial2 .ensures) (
-      rows-one (a .points) (a .k) (l .left) _ _ (placed (c .before .before .before) .0) (ap (λ (x : ℕ). x * a .points) (r .1 ∙ sym (rank-without (a .k) _ (placed (c .before .before .before) .0)))),
+      rows-one (a .points) (a .k) (l .left) _ _ (placed (c .before .before .before) .0) (r .1),
       one-lowered (l .inv .1) (task (c .before .before .before)) (r .1),
     )
 

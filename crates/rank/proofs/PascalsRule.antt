@@ -4,7 +4,7 @@ use Rattle.model.proofs.Basics.{_≡_, ap₂, _∙_, Bool, true, List, [], ℕ,
 use Rattle.model.specs.{allBelow}
 use Rattle.model.proofs.Tools.Tests.{all-at}
 use Rattle.rank.specs.Binomials.{binomial}
-use Rattle.rank.specs.Ranks.{maxRanked}
+use Rattle.rank.specs.Ranks.{maxRanked, Tabled}
 
 abbrev entry : List (List ℕ) → ℕ → ℕ → ℕ
 entry table n k = getD (getD table n []) k 0
@@ -31,8 +31,12 @@ module _ (table : List (List ℕ)) (t : followsRule table ≡ true) where
       let row = all-at (suc maxRanked) (ruledRow table) t n (omega arith) in
       eqb-true (entry table n k) (rule table n k) (all-at (suc maxRanked) (ruledAt table n) row k (omega arith))
 
-  pub binomial-at : (n k : ℕ) → n ≤ maxRanked → k ≤ maxRanked → entry table n k ≡ binomial n k
+  binomial-at : (n k : ℕ) → n ≤ maxRanked → k ≤ maxRanked → entry table n k ≡ binomial n k
   binomial-at n zero h l = ruled n 0 h l
   binomial-at zero (suc k) h l = ruled 0 (suc k) h l
   binomial-at (suc n) (suc k) h l =
       ruled (suc n) (suc k) h l ∙ ap₂ _+_ (binomial-at n k (omega arith) (omega arith)) (binomial-at n (suc k) (omega arith) l)
+
+  pub tabled : Tabled table
+  unfolding Tabled
+  tabled = binomial-at
