@@ -1,2 +1,4 @@
 pub mod Fits
 pub mod Quoting
+pub mod Claims
+pub mod Acceptance

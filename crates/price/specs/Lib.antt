@@ -1,2 +1,4 @@
 pub mod Pricing
 pub mod Answers
+pub mod Claims
+pub mod Examples

@@ -1,0 +1,83 @@
+-- What is claimed of pricing, in plain facts and as a caller from C sees it (02, Req 01). `pricing`, `price-is-plan`, `layers-left` and `fewer-cells` prove it.
+-- Assumes nothing.
+use mathlib.Core.Path.{_≡_}
+use mathlib.Core.Logic.{_⊎_, _↔_}
+use mathlib.Core.List.{List, []}
+use Prim.Native.Nat.{ℕ, _+_, _*_, _^_, _≤_, _<_}
+use lib.ListN.{length}
+use Rattle.model.specs.Folds.{mapBelow}
+use Rattle.model.specs.TaskList.{full}
+use Rattle.model.specs.Sheet.{Sheet}
+use Rattle.model.specs.Plans.{Plan, planCost, costToGo}
+use Rattle.model.specs.Bytes.{overwrite}
+use Rattle.model.specs.Answer.{refused, accepted, status, placed, placedNumber}
+use Rattle.model.specs.SheetLayout.{decode}
+use Rattle.model.specs.Faults.{readSheet}
+use Rattle.model.specs.PlanLayout.{planBytes}
+use Rattle.model.specs.Planning.{cellsNeeded, planFor, plan}
+use Rattle.model.specs.Demands.{SheetNumber}
+use Rattle.model.specs.Figures.{tasksStated, pointsStated, SheetApplies, AnswersBy}
+use Rattle.rank.specs.Binomials.{mostLists}
+use Rattle.layers.specs.Layers.{layerCells}
+use Rattle.price.specs.Pricing.{Price, price, LayersAfter, priceRow, rowPlace, priceCost, priceStart}
+
+-- ---- what the numbers of pricing mean
+
+-- r applies to the sheet b with layers of so many cells
+pub data PricingApplies (b : List ℕ) (even odd r : ℕ) : Type 0 where
+  sheet : SheetApplies b r → PricingApplies b even odd r
+  -- 22: the even layer, or the odd one, has fewer than B times P cells
+  even22 : r ≡ 22 → even < mostLists (tasksStated b) * pointsStated b → PricingApplies b even odd r
+  odd22 : r ≡ 22 → odd < mostLists (tasksStated b) * pointsStated b → PricingApplies b even odd r
+
+-- either layer has fewer than B times P cells
+abbrev pub EitherShort : List ℕ → ℕ → ℕ → Type 0
+EitherShort b even odd = (even < mostLists (decode b .tasks) * decode b .points) ⊎ (odd < mostLists (decode b .tasks) * decode b .points)
+
+pub record PricingHolds (b : List ℕ) (even odd : ℕ) : Type 0 where
+  -- refused with r exactly if r applies and no lower number that pricing can give does, accepted exactly if none does; and so by what is returned
+  pub answers : AnswersBy (PricingApplies b even odd) (price b even odd)
+  -- 22 exactly if the sheet reads and a layer has fewer than B times P cells; and so by what is returned
+  pub gets-22 : (price b even odd ≡ refused 22) ↔ ((status (readSheet b) ≡ 0) × EitherShort b even odd)
+  pub returns-22 : (status (price b even odd) ≡ 22) ↔ ((status (readSheet b) ≡ 0) × EitherShort b even odd)
+  -- 0 exactly if the sheet reads and both have as many
+  pub returns-0 : (status (price b even odd) ≡ 0)
+      ↔ ((status (readSheet b) ≡ 0) × (mostLists (decode b .tasks) * decode b .points ≤ even) × (mostLists (decode b .tasks) * decode b .points ≤ odd))
+  -- the row call returns what pricing with these layers returns
+  pub row-alike : status (rowPlace b even odd) ≡ status (price b even odd)
+
+-- ---- pricing is planning
+
+pub record PriceIsPlan (b : List ℕ) (even odd cells room : ℕ) : Type 0 where
+  -- where planning answers with a plan, pricing answers, given room, with its cost and its start
+  pub priced : (x : Plan) → planFor b cells room ≡ accepted x → layerCells (decode b) ≤ even → layerCells (decode b) ≤ odd
+      → price b even odd ≡ accepted (record { cost = planCost (decode b) x; start = x .start })
+  -- where pricing answers, planning answers, given room, with a plan of that cost and that start
+  pub planned : (y : Price) → price b even odd ≡ accepted y → 2 ^ decode b .tasks * decode b .points ≤ cells → 32 + 2 * decode b .tasks ≤ room
+      → (x : Plan) × (planFor b cells room ≡ accepted x) × (planCost (decode b) x ≡ y .cost) × (x .start ≡ y .start)
+  -- and both refuse a sheet with the same of its own numbers
+  pub refused-alike : (r : ℕ) → SheetNumber r → (planFor b cells room ≡ refused r) ↔ (price b even odd ≡ refused r)
+
+-- by what is returned and left: where planning returns 0, *cost of both is the same, and the plan's bytes have *start of pricing as their start, and that cost
+abbrev pub SameLeft : List ℕ → List ℕ → List ℕ → ℕ → ℕ → Type 0
+SameLeft b cells buffer even odd = (cost start : ℕ) → status (plan b cells buffer .answer) ≡ 0 → status (price b even odd) ≡ 0
+    → (placed priceCost (price b even odd) cost ≡ placedNumber (plan b cells buffer .answer) cost)
+    × ((doors : List ℕ) × (plan b cells buffer .bytes
+    ≡ overwrite (planBytes (decode b .tasks) (placed priceStart (price b even odd) start) doors (placed priceCost (price b even odd) cost)) buffer))
+
+-- ---- the layers and the row
+
+pub record LayersLeft (b even odd even' odd' : List ℕ) : Type 0 where
+  -- on refusal both layers stay, every cell, and there is no row
+  pub left-alone : (status (price b (length even) (length odd)) ≡ 0 → ⊥) → (even' ≡ even) × (odd' ≡ odd) × (priceRow b even' odd' ≡ [])
+  -- otherwise their lengths stay, and the row shows the costs to go of the whole round
+  pub as-many : (length even' ≡ length even) × (length odd' ≡ length odd)
+  pub row-shows : status (price b (length even) (length odd)) ≡ 0
+      → priceRow b even' odd' ≡ mapBelow (decode b .points) (costToGo (decode b) (full (decode b .tasks)))
+
+-- ---- fewer cells
+
+pub record FewerCells (S : Sheet) : Type 0 where
+  -- two layers need fewer cells than planning from three tasks on, and as many for one and two
+  pub three-on : 1 ≤ S .points → 3 ≤ S .tasks → 2 * layerCells S < cellsNeeded S
+  pub one-or-two : (S .tasks ≡ 1) ⊎ (S .tasks ≡ 2) → 2 * layerCells S ≡ cellsNeeded S
