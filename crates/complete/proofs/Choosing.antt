@@ -45,7 +45,8 @@ module _ {b : List ℕ} {v : View} {K p : ℕ} {cells : List ℕ} (C : Completab
   }
 
   -- the place that the code finds among the doors that it holds
-  module _ {rows : List ℕ} (O : OpenList b v K cells rows) {w m : ℕ} {doors arrives costs : List ℕ} (h : Holding (decode b) K cells rows w m doors arrives costs)
+  module _ {rows : List ℕ} (O : OpenList b v K cells rows) {w m : ℕ} {doors arrives costs : List ℕ}
+      (h : Holding (decode b) K cells rows w m doors arrives costs)
       {i here : ℕ} (hh : here ≡ getD cells (K * v .points + p) 0)
       (hi : i ≡ indexOf here (mapBelow (length (take m costs)) (throughGathered (decode b) w (take m arrives) (take m costs) p))) where
     place : FirstAt (throughNth (decode b) K cells rows p) (length (firstDoors (decode b) K)) (costToGo (decode b) K p) i

@@ -1,6 +1,7 @@
 -- A layer while the rows of one size are written into it, at their ranks: what is shown by then, and that every cell is as lent or an open cell of this layer.
 -- Ranks of lists of one size are distinct, so no row of a size is written over another of that size. Assumes nothing.
-use Rattle.model.proofs.Basics.{_≡_, refl, sym, ap, ap₂, _∙_, _≢_, _⊎_, inl, inr, ⊎-elim, true, false, List, _++_, ℕ, suc, _+_, _-_, _*_, _/_, _%_, _^_, _≤_, _<_}
+use Rattle.model.proofs.Basics.{_≡_, refl, sym, ap, ap₂, _∙_, _≢_, _⊎_, inl, inr, ⊎-elim, true, false, List, _++_, ℕ, suc, _+_, _-_, _*_}
+use Rattle.model.proofs.Basics.{_/_, _%_, _^_, _≤_, _<_}
 use Rattle.model.proofs.Basics.{arith, ltb, length, getD, ltb-true, ltb-false, mul-le-mul-right, pow-pos, pow-mono, ne-eqb, drop}
 use Rattle.model.specs.{mapBelow, bit, full, without, size, essential, pairsAllow, costToGo, overwrite, overwriteAt, maskBits, maxTasks, InRange}
 use Rattle.model.specs.Sheet.{Sheet}

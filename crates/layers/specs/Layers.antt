@@ -5,7 +5,7 @@ use mathlib.Core.Path.{_≡_}
 use mathlib.Core.Logic.{_⊎_}
 use mathlib.Core.Bool.{true}
 use mathlib.Core.List.{List}
-use Prim.Native.Nat.{ℕ, _+_, _*_, _/_, _%_, _^_, _≤_, _<_}
+use Prim.Native.Nat.{ℕ, _+_, _-_, _*_, _/_, _%_, _^_, _≤_, _<_}
 use lib.ListN.{length, getD}
 use Rattle.model.specs.TaskList.{full, size}
 use Rattle.model.specs.Sheet.{Sheet}
@@ -62,6 +62,10 @@ pub record ShowsBelow (S : Sheet) (m k : ℕ) (layer : List ℕ) : Type 0 where
 -- of every list of m tasks
 abbrev pub Shows : Sheet → ℕ → List ℕ → Type 0
 Shows S m layer = ShowsBelow S m (2 ^ S .tasks) layer
+
+-- of every list that has one task less than K, as K without a task has
+abbrev pub ShowsRests : Sheet → ℕ → List ℕ → Type 0
+ShowsRests S K layer = Shows S (size (S .tasks) K - 1) layer
 
 -- every cell is as lent or an open cell of this layer
 pub record Kept (S : Sheet) (parity : ℕ) (before after : List ℕ) : Type 0 where

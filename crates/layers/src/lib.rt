@@ -2,18 +2,17 @@
 ghost use mathlib.Core.Path.{_≡_};
 ghost use mathlib.Core.Bool.{true};
 ghost use Prim.Native.Nat.{_-_, _%_, _^_, _≤_, _<_};
-ghost use Rattle.model.specs.TaskList.{size};
 ghost use Rattle.model.specs.Orders.{essential};
 ghost use Rattle.model.specs.SheetLayout.{decode};
 ghost use Rattle.rank.specs.Ranks.{Tabled};
-ghost use Rattle.layers.specs.Layers.{withRow, Layered, Shows, Kept, LayerFilled};
+ghost use Rattle.layers.specs.Layers.{withRow, Layered, Shows, ShowsRests, Kept, LayerFilled};
 use rank::Table;
 use view::MAX_DOORS;
 use view::View;
 
 // Writes the row of the essential list k into its layer, from the one below, which shows the lists with one task less.
 fn list_row(s: &[u8], v: View, table: &Table, k: u32, below: &[u64], here: &mut [u64])
-    requires { ⌜ Layered (now s) v (now below) (now here) × Tabled (now table) × (k < 2 ^ decode (now s) .tasks) × (essential (decode (now s)) k ≡ true) × Shows (decode (now s)) (size (decode (now s) .tasks) k - 1) (now below) ⌝ }
+    requires { ⌜ Layered (now s) v (now below) (now here) × Tabled (now table) × (k < 2 ^ decode (now s) .tasks) × (essential (decode (now s)) k ≡ true) × ShowsRests (decode (now s)) k (now below) ⌝ }
     ensures { λ _. ⌜ now (here .exit) ≡ withRow (decode (now (s .entry))) k (now (here .entry)) ⌝ }
 {
     let load = cost::load(s, v, k);

@@ -1,5 +1,6 @@
 -- A sheet that reads has what the planner's calls ask, and its refusals for want of room. Assumes nothing.
-use Rattle.model.proofs.Basics.{_≡_, refl, sym, ap, ap₂, _∙_, List, ℕ, _+_, _*_, _^_, _≤_, _<_, _-_, arith, length, getD, take, drop, pow-pos, lt-ltb, le-ltb}
+use Rattle.model.proofs.Basics.{_≡_, refl, sym, ap, ap₂, _∙_, List, ℕ, _+_, _*_, _^_, _≤_, _<_, _-_, arith, length, getD, take, drop}
+use Rattle.model.proofs.Basics.{pow-pos, lt-ltb, le-ltb}
 use lib.ListN.{length-drop}
 use lib.Seq.{take-length, getD-drop}
 use Rattle.model.specs.{full, maxListed, listsOf, fullOf, refused, decode, readSheet, planLength, shortRoom, cellsNeeded, fewCells, roomTests}
@@ -86,7 +87,8 @@ module _ (b : List ℕ) (h : Reads b) where
       whole = rw (length-cells (decode b) cells) room
 
       -- the row of the full list, as the code takes it from there on: k and n are its full list and its number of points
-      module _ {k n : ℕ} {new : List ℕ} (full-here : k ≡ full (decode b .tasks)) (points-here : n ≡ decode b .points) (filled : new ≡ cellsAfter (decode b) cells) where
+      module _ {k n : ℕ} {new : List ℕ} (full-here : k ≡ full (decode b .tasks)) (points-here : n ≡ decode b .points)
+          (filled : new ≡ cellsAfter (decode b) cells) where
         start-in : (s : ℕ) → s < decode b .starts → k * n + decode b .startPoint s < length new
         start-in s l = rw (full-here, points-here, filled)
             (omega (arith, whole, digits-lt (full-lt (decode b .tasks)) (plannable b h .ranges .start s l)))

@@ -1,15 +1,19 @@
 -- What is claimed of pricing holds: its numbers by the tests that it shares with the row call, and its answer as that of planning, because both are made of the
 -- cheapest plan. Assumes nothing.
-use Rattle.model.proofs.Basics.{_≡_, refl, sym, ap, _∙_, _⊎_, inl, inr, ⊎-elim, _↔_, Bool, true, false, _||_, List, [], _∷_, _++_, some, ℕ, _+_, _*_, _^_}
+use Rattle.model.proofs.Basics.{_≡_, refl, sym, ap, _∙_, _⊎_, inl, inr, ⊎-elim, _↔_, Bool, true, false, _||_, List, [], _∷_, _++_, some}
+use Rattle.model.proofs.Basics.{ℕ, _+_, _*_, _^_}
 use Rattle.model.proofs.Basics.{_≤_, _<_, arith, lit<, ltb, length, getD, take, ext-getD, ltb-true, lt-ltb, le-ltb, mul-le-mul-right}
-use Rattle.model.specs.{Answer.Answer, Plans.Plan, Sheet.Sheet, mapBelow, full, planCost, cheapest, costToGo, refused, accepted, Test, _when_, refuseFirst, status}
-use Rattle.model.specs.{placed, placedNumber, overwrite, decode, decodeBy, entries, lineAt, readSheet, sheetTests, unlessFault, planLength, planBytes, shortRoom}
+use Rattle.model.specs.{Answer.Answer, Plans.Plan, Sheet.Sheet, mapBelow, full, planCost, cheapest, costToGo, refused, accepted, Test}
+use Rattle.model.specs.{_when_, refuseFirst, status}
+use Rattle.model.specs.{placed, placedNumber, overwrite, decode, decodeBy, entries, lineAt, readSheet, sheetTests, unlessFault}
+use Rattle.model.specs.{planLength, planBytes, shortRoom}
 use Rattle.model.specs.{cellsNeeded, fewCells, roomTests, orNoOrder, planFor, carriedOut, plan}
 use Rattle.model.specs.Figures.{AnswersBy}
 use Rattle.model.specs.Demands.{SheetNumber}
 use Rattle.model.proofs.Tools.Tests.{or-true, not-less}
 use Rattle.model.proofs.Tools.Folds.{length-mapBelow, mapBelow-at}
-use Rattle.model.proofs.Tools.Refusing.{refused≢accepted, refused-number, accepted-value, returned, returned-refusal, AllPass, Applies, accepted-pass, refused-applies}
+use Rattle.model.proofs.Tools.Refusing.{refused≢accepted, refused-number, accepted-value, returned, returned-refusal, AllPass, Applies}
+use Rattle.model.proofs.Tools.Refusing.{accepted-pass, refused-applies}
 use Rattle.model.proofs.Tools.Refusing.{refuse-append, pass-append, applies-append, answers-by}
 use Rattle.model.proofs.Bytes.PlanBytes.{length-is}
 use Rattle.model.proofs.Calls.Reading.{Reads, all-reads, reads-then, accepted-reads, sheet-within}
@@ -18,7 +22,8 @@ use Rattle.model.proofs.Calls.Planning.{has-plan, planned}
 use Rattle.rank.specs.Binomials.{mostLists}
 use Rattle.rank.proofs.Binomials.{two-layers-less, two-layers-same-1, two-layers-same-2}
 use Rattle.layers.specs.Layers.{layerCells, LayerFilled}
-use Rattle.price.specs.Pricing.{shortLayer, layerTests, unlessShort, Price, priceOf, priceIn, price, LayerAfter, LayersAfter, layerOf, priceRow, RowPlace, rowPlace}
+use Rattle.price.specs.Pricing.{shortLayer, layerTests, unlessShort, Price, priceOf, priceIn, price, LayerAfter, LayersAfter}
+use Rattle.price.specs.Pricing.{layerOf, priceRow, RowPlace, rowPlace}
 use Rattle.price.specs.Pricing.{priceCost, priceStart}
 use Rattle.price.specs.Claims.{PricingApplies, EitherShort, PricingHolds, PriceIsPlan, SameLeft, LayersLeft, FewerCells}
 use Rattle.price.proofs.Fits.{Fits, fits, fits-then, fits-0, refused-alike-22, priced, row-there}
@@ -122,7 +127,8 @@ module _ (b : List ℕ) (even odd : ℕ) where
 -- ---- pricing is planning
 
 -- two answers with the same tests before them: all tests pass, or they are refused alike
-pass-or-alike : {A B : Type 0} (ts : List Test) (a : Answer A) (c : Answer B) (r : ℕ) → refuseFirst ts a ≡ refused r → AllPass ts ⊎ (refuseFirst ts c ≡ refused r)
+pass-or-alike : {A B : Type 0} (ts : List Test) (a : Answer A) (c : Answer B) (r : ℕ) → refuseFirst ts a ≡ refused r
+    → AllPass ts ⊎ (refuseFirst ts c ≡ refused r)
 pass-or-alike [] a c r e = inl tt
 pass-or-alike ((n when true) ∷ ts) a c r e = inr (ap refused (refused-number e))
 pass-or-alike ((n when false) ∷ ts) a c r e = ⊎-elim (λ p. inl (refl, p)) inr (pass-or-alike ts a c r e)
@@ -198,7 +204,8 @@ same-left b cells buffer even odd cost start e f = go (planFor b (length cells) 
 -- ---- the layers and the row
 
 module _ (b even odd even' odd' : List ℕ) where
-  left-as : (a : Answer Price) → LayerAfter a (decode b) 0 even even' × LayerAfter a (decode b) 1 odd odd' → (length even' ≡ length even) × (length odd' ≡ length odd)
+  left-as : (a : Answer Price) → LayerAfter a (decode b) 0 even even' × LayerAfter a (decode b) 1 odd odd'
+      → (length even' ≡ length even) × (length odd' ≡ length odd)
   left-as (refused r) h = (ap length (h .0), ap length (h .1))
   left-as (accepted x) h = (h .0 .as-many, h .1 .as-many)
 
@@ -219,7 +226,9 @@ module _ (b even odd even' odd' : List ℕ) where
     fitted = fits b (length even) (length odd) _ (is-priced .1) .0
 
     both : LayerFilled (decode b) 0 even even' × LayerFilled (decode b) 1 odd odd'
-    both = let k : LayerAfter (accepted (is-priced .0)) (decode b) 0 even even' × LayerAfter (accepted (is-priced .0)) (decode b) 1 odd odd' = rw (is-priced .1) at h in k
+    both =
+        let a = accepted (is-priced .0) in
+        let k : LayerAfter a (decode b) 0 even even' × LayerAfter a (decode b) 1 odd odd' = rw (is-priced .1) at h in k
 
     shown : priceRow b even' odd' ≡ mapBelow (decode b .points) (costToGo (decode b) (full (decode b .tasks)))
     shown =

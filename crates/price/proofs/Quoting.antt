@@ -1,6 +1,7 @@
 -- The layers are filled, so the row of the full list shows what the whole round costs from each point; the start chosen from it and the cost there are those of
 -- the cheapest plan. Assumes nothing.
-use Rattle.model.proofs.Basics.{_≡_, refl, sym, ap, ap₂, _∙_, true, false, cond, List, some, ℕ, _+_, _%_, _≤_, _<_, mod-lt, zero-lt-suc, arith, eqb, length, getD, take}
+use Rattle.model.proofs.Basics.{_≡_, refl, sym, ap, ap₂, _∙_, true, false, cond, List, some, ℕ, _+_, _%_, _≤_, _<_, mod-lt, zero-lt-suc}
+use Rattle.model.proofs.Basics.{arith, eqb, length, getD, take}
 use Rattle.model.proofs.Basics.{length-take-le, getD-take, eqb-true, eqb-false}
 use Rattle.model.specs.{full, costToGo, accepted, decode, InRange}
 use Rattle.model.proofs.Tools.Tests.{by-test}

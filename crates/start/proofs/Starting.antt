@@ -49,7 +49,8 @@ abbrev pub roundFrom : Sheet → ℕ → ℕ
 roundFrom S s = costToGo S (full (S .tasks)) (S .startPoint s)
 
 -- the row shows that, and s is what was chosen from it
-module _ (S : Sheet) (row : List ℕ) (shows : (s : ℕ) → s < S .starts → getD row (S .startPoint s) 0 ≡ roundFrom S s) {s : ℕ} (chosen : some s ≡ firstStart S row) where
+module _ (S : Sheet) (row : List ℕ) (shows : (s : ℕ) → s < S .starts → getD row (S .startPoint s) 0 ≡ roundFrom S s) {s : ℕ}
+    (chosen : some s ≡ firstStart S row) where
   pub first-of-round : firstLeast (roundFrom S) (passingBelow (S .starts) (λ s. true)) ≡ some s
   unfolding firstStart startCost
   first-of-round = sym (first-cong (startCost S row) _ (passingBelow (S .starts) (λ s. true)) (all-flat _ (S .starts) _ (λ s l. (shows s l, tt)))) ∙ sym chosen

@@ -26,15 +26,16 @@ small : (c : tie.After-shared-slice-known2) → let a = c .before .before .args 
 small c = omega (arith, there c)
 
 -- the list is open
-is-open : (c : tie.After-shared-slice-known2) → let a = c .before .before .args in OpenList (a .s .now) (a .v) (a .k) (a .cells .now) (restRows (decode (a .s .now) .points) (a .k))
+is-open : (c : tie.After-shared-slice-known2) →
+    let a = c .before .before .args in OpenList (a .s .now) (a .v) (a .k) (a .cells .now) (restRows (decode (a .s .now) .points) (a .k))
 is-open c = let s = c .before .before in opened (s .pre .0) (s .pre .1) (are-bytes (s .args .s .now) (c .before .shared-slice-known .given))
 
 -- what the code has once the doors are gathered
 holds : (c : tie.After-gather) →
     let a = entered c .args in
     let l = c .gather .last .1 .1 .1 .1 .1 .1 in
-    Holding (decode (a .s .now)) (a .k) (a .cells .now) (restRows (decode (a .s .now) .points) (a .k)) (c .before .before .before .before .before .before .load .result) (c .gather .result)
-    (l .0) (l .1 .0) (l .1 .1 .0)
+    Holding (decode (a .s .now)) (a .k) (a .cells .now) (restRows (decode (a .s .now) .points) (a .k))
+    (c .before .before .before .before .before .before .load .result) (c .gather .result) (l .0) (l .1 .0) (l .1 .1 .0)
 holds c =
     let r = c .before .before .before .before .before in
     hold (is-open (begun (c .before))) (rows-are _ (entered c .pre .0 .sheet) (r .rest-rows .ensures)) _ _ _ (r .before .load .ensures) (c .gather .ensures)

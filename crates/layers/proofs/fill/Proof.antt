@@ -34,7 +34,8 @@ first-room c = rw (points-are (c .pre .sheet .view)) (row-within _ (c .pre .room
 -- the end costs are written
 begun : (c : tie.After-pascal Inv-loop μ-loop) →
     let a = entered c .args in
-    Stage (decode (a .s .now)) 0 (a .even .now) (a .odd .now) (c .before .before .before .end-row .last .1 .1 .0 ++ drop (a .v .points) (a .even .now)) (a .odd .now)
+    Stage (decode (a .s .now)) 0 (a .even .now) (a .odd .now)
+    (c .before .before .before .end-row .last .1 .1 .0 ++ drop (a .v .points) (a .even .now)) (a .odd .now)
 begun c =
     let s = entered c in
     let p = s .pre in

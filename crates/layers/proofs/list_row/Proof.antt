@@ -122,7 +122,7 @@ returns c =
     (row-of (is-open r) (holds g) (c .before .before .row .ensures))
 
 pub list-row-spec : {M : Type 1} → statement M
-list-row-spec = tie.close (tie.spec load-requires (λ c κs. c .before .before .before .before .pre .1) (λ c. search needs) (λ c. search needs) (λ c. search needs)
-    (λ c. search needs) gather-requires (λ c. search needs) add-end array-share-prefix-arrivals slice-aggregate-row
+list-row-spec = tie.close (tie.spec load-requires (λ c κs. c .before .before .before .before .pre .1) (λ c. search needs) (λ c. search needs)
+    (λ c. search needs) (λ c. search needs) gather-requires (λ c. search needs) add-end array-share-prefix-arrivals slice-aggregate-row
     array-share-prefix-parts slice-aggregate-row-2 mul-row (λ c. search needs) (λ c. search needs) part-row-end row-requires
     (λ c. search needs) returns)

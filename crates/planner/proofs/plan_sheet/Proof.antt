@@ -1,5 +1,6 @@
 -- The sheet reads, so each call has what it asks; 20 and 21 leave everything, and past them the plan is carried out. Assumes nothing.
-use Rattle.model.proofs.Basics.{_≡_, ap, ap₂, _∙_, List, some, ℕ, _-_, _*_, _≤_, _<_, mul-le-mul-right, arith, length, getD, take, drop, ltb-true, ltb-false, needs}
+use Rattle.model.proofs.Basics.{_≡_, ap, ap₂, _∙_, List, some, ℕ, _-_, _*_, _≤_, _<_, mul-le-mul-right, arith, length, getD, take, drop}
+use Rattle.model.proofs.Basics.{ltb-true, ltb-false, needs}
 use Rattle.model.specs.{full, decode, cellsAfter}
 use Rattle.model.proofs.Calls.Reading.{Reads}
 use Rattle.model.proofs.Calls.Interface.{reads-sheet}

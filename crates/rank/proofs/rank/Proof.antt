@@ -1,7 +1,7 @@
 -- Task by task from the lowest, the sum has what the tasks so far add. Assumes nothing.
-use Rattle.model.proofs.Basics.{_∙_, _%_, _^_, arith, needs}
+use Rattle.model.proofs.Basics.{_∙_, ℕ, _%_, _^_, _≤_, arith, needs}
 use Rattle.model.specs.{maskBits}
-use lib.Count.{trailingZeros, trailing-le}
+use lib.Count.{trailingZeros, leadingZeros, trailing-le, leading-le}
 use Rattle.rank.specs.Binomials.{binomial}
 use Rattle.rank.specs.Ranks.{maxRanked, rankOf}
 use Rattle.rank.proofs.Ends.{Lowest, lowest, without-less, size-mask}
@@ -18,6 +18,10 @@ abbrev μ-loop : tie.MeasureT-loop
 loop-holds : tie.Need-loop-holds Inv-loop μ-loop
 loop-holds c = none-ranked _ _ (omega arith)
 
+-- a count of zeros, from either end, is at most the width
+zeros-le : (K : ℕ) → (trailingZeros maskBits K ≤ maskBits) × (leadingZeros maskBits K ≤ maskBits)
+zeros-le K = (trailing-le maskBits K, leading-le maskBits K)
+
 -- the task of the turn
 task : (c : tie.In-loop Inv-loop μ-loop) → Lowest (c .before .loop .left) (trailingZeros maskBits (c .before .loop .left))
 task c = lowest maskBits _ (omega arith) (omega arith)
@@ -26,7 +30,7 @@ add-size : tie.Need-add-size Inv-loop μ-loop
 add-size c = omega (arith, rank-fits (c .before .loop .inv) (task c) .1)
 
 cast-binomial : tie.Need-cast-binomial Inv-loop μ-loop
-cast-binomial c = omega (arith, trailing-le maskBits (c .before .loop .left))
+cast-binomial c = omega (arith, zeros-le (c .before .loop .left))
 
 binomial-requires : tie.Need-binomial-requires Inv-loop μ-loop
 binomial-requires c κs = let f = rank-fits (c .before .loop .inv) (task c) in (c .before .before .pre, (f .0, f .1))
@@ -35,7 +39,7 @@ add-rank : tie.Need-add-rank Inv-loop μ-loop
 add-rank c = omega (arith, rank-fits (c .before .before .loop .inv) (task (c .before)) .2, c .binomial .ensures)
 
 cast-without : tie.Need-cast-without Inv-loop μ-loop
-cast-without c = omega (arith, trailing-le maskBits (c .before .before .loop .left))
+cast-without c = omega (arith, zeros-le (c .before .before .loop .left))
 
 loop-less : tie.Need-loop-less Inv-loop μ-loop
 loop-less c = rw (c .without .ensures) (without-less _ _ (task (c .before .before) .task))

@@ -54,11 +54,12 @@ is-open c =
 holds : (c : tie.After-gather) →
     let a = entered (begun (c .before)) .args in
     let l = c .gather .last .1 .1 .1 .1 .1 .1 in
-    Holding (decode (a .s .now)) (a .k) (a .cells .now) (restRows (decode (a .s .now) .points) (a .k)) (c .before .before .before .before .before .before .before .load .result) (c .gather .result)
-    (l .0) (l .1 .0) (l .1 .1 .0)
+    Holding (decode (a .s .now)) (a .k) (a .cells .now) (restRows (decode (a .s .now) .points) (a .k))
+    (c .before .before .before .before .before .before .before .load .result) (c .gather .result) (l .0) (l .1 .0) (l .1 .1 .0)
 holds c =
     let r = c .before .before .before .before .before .before in
-    hold (is-open (begun (c .before))) (rows-are _ (entered (begun (c .before)) .pre .0) (r .rest-rows .ensures)) _ _ _ (r .before .load .ensures) (c .gather .ensures)
+    let b = begun (c .before) in
+    hold (is-open b) (rows-are _ (entered b .pre .0) (r .rest-rows .ensures)) _ _ _ (r .before .load .ensures) (c .gather .ensures)
 
 -- ---- the needs
 
