@@ -81,7 +81,7 @@ readme_fleet() {
 # One test of each page: what it links to is there, the heading too.
 links() {
     local page link file heading
-    for page in README.md docs/*.md; do
+    for page in README.md docs/*.md docs/changes/*.md; do
         while IFS='#' read -r file heading; do
             link=$(dirname "$page")/$file
             [ -n "$file" ] || link=$page

@@ -18,10 +18,11 @@ use Rattle.table.proofs.Bellman.{essential-allowed, Rests, rests-at}
 use Rattle.table.proofs.Parts.{map-cong-below}
 use Rattle.table.proofs.Filling.{over-below, over-in, over-beyond}
 use Rattle.rank.specs.Binomials.{mostLists}
-use Rattle.rank.specs.Ranks.{rank, maxRanked, rankOf, restRows, NextOfSize}
+use Rattle.rank.specs.Ranks.{rank, maxRanked, rankOf, rankRows, NextOfSize}
 use Rattle.rank.proofs.Binomials.{binomial-most}
 use Rattle.rank.proofs.Counting.{rank-distinct, rank-most, rank-full, rank-empty, rank-of}
 use Rattle.rank.proofs.Sizes.{size-narrow, full-least}
+use Rattle.rank.proofs.Following.{none-among}
 use Rattle.rank.proofs.Ends.{task-below}
 use Rattle.layers.specs.Layers.{layerCells, CostAtRank, OpenCell, withRow, LayerFilled, ShowsBelow, Shows, Kept}
 
@@ -118,10 +119,10 @@ module _ (S : Sheet) (layer : List ℕ) (K : ℕ) (listed : K < 2 ^ S .tasks) (r
 -- ---- the layer below
 
 -- which lists of the layer below a list needs: K without each task that can come first has one task less, is one that the pairs allow, and stands there at its
--- rank, since its layer is written over only once the next size is done
+-- rank. That the layer below still shows them is `Stage`: it is written over only once the size that it is needed for is done
 pub rests-stand : {S : Sheet} {below : List ℕ} (K m : ℕ) → InRange S → S .tasks ≤ maxTasks → K < 2 ^ S .tasks → essential S K ≡ true
-    → size (S .tasks) K ≡ suc m → layerCells S ≤ length below → Shows S m below → Rests S K below (restRows (S .points) K)
-unfolding restRows
+    → size (S .tasks) K ≡ suc m → layerCells S ≤ length below → Shows S m below → Rests S K below (rankRows (S .points) K)
+unfolding rankRows
 rests-stand {S} {below} K m R few listed ess e room shown = rests-at K maxRanked rankOf R (omega arith) (λ t p first point.
     let b : bit K t ≡ 1 = first-bit S K t first in
     let in-sheet : t < S .tasks = task-below (S .tasks) K t listed b in
@@ -202,13 +203,16 @@ module _ {S : Sheet} {m lists k : ℕ} {before layer : List ℕ} (h : Filling S 
     listed : k < 2 ^ S .tasks
     listed = omega (arith, h .all)
 
+    within : S .tasks ≤ maskBits
+    within = omega (arith, h .few)
+
     in-mask : (L : ℕ) → L < 2 ^ S .tasks → size maskBits L ≡ size (S .tasks) L
-    in-mask L l = size-narrow (S .tasks) maskBits L l (omega (arith, h .few))
+    in-mask L l = size-narrow (S .tasks) maskBits L l within
 
     upto : (L : ℕ) → L < next → L < 2 ^ S .tasks → size (S .tasks) L ≡ m → (L < k) ⊎ (L ≡ k)
     upto L l low s = by-test (ltb L (suc k))
         (λ w. by-last L k (ltb-true L (suc k) w) inr inl)
-        (λ w. absurd (n .none-between L (ltb-false L (suc k) w) l (in-mask L low ∙ s ∙ sym (h .of-size more) ∙ sym (in-mask k listed))))
+        (λ w. absurd (none-among (S .tasks) maskBits k next within n listed L (ltb-false L (suc k) w) l low (s ∙ sym (h .of-size more))))
 
     turn : {new : List ℕ} → ShowsBelow S m next new → Kept S (m % 2) before new → Filling S m before lists new next
     turn shown kept = record {

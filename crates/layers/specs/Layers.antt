@@ -45,7 +45,7 @@ pub record LayerFilled (S : Sheet) (parity : ℕ) (before after : List ℕ) : Ty
   pub beyond : (i : ℕ) → layerCells S ≤ i → getD after i 0 ≡ getD before i 0
   -- the first P cells of the layer of N's parity are the cost to go with the full list open from each point
   pub whole-round : S .tasks % 2 ≡ parity → (p : ℕ) → p < S .points → getD after p 0 ≡ costToGo S (full (S .tasks)) p
-  -- the others are open
+  -- the others below B times P are open
   pub others : (i : ℕ) → i < layerCells S → OpenCell S parity i (getD before i 0) (getD after i 0)
 
 -- ---- while they are filled
@@ -67,7 +67,7 @@ Shows S m layer = ShowsBelow S m (2 ^ S .tasks) layer
 abbrev pub ShowsRests : Sheet → ℕ → List ℕ → Type 0
 ShowsRests S K layer = Shows S (size (S .tasks) K - 1) layer
 
--- every cell is as lent or an open cell of this layer
+-- every cell is as lent, or such a cost to go of this layer
 pub record Kept (S : Sheet) (parity : ℕ) (before after : List ℕ) : Type 0 where
   pub as-many : length after ≡ length before
   pub cells : (i : ℕ) → OpenCell S parity i (getD before i 0) (getD after i 0)

@@ -6,7 +6,6 @@ use lib.Seq.{take-length, getD-drop}
 use Rattle.model.specs.{full, maxListed, listsOf, fullOf, refused, decode, readSheet, planLength, shortRoom, cellsNeeded, fewCells, roomTests}
 use Rattle.model.specs.{planFor, cellsAfter, Planned, plan}
 use Rattle.model.proofs.TaskLists.Masks.{full-lt, lists-of, full-of}
-use Rattle.model.proofs.Theory.Loads.{light, loads-hold}
 use Rattle.model.proofs.Theory.OpenAlong.{full-allowed}
 use Rattle.model.proofs.Bytes.Entries.{tasks-listed}
 use Rattle.model.proofs.Calls.Reading.{Reads, reads-then, counts-read, refused-alike}
@@ -17,8 +16,7 @@ use Rattle.view.specs.Views.{viewOf, Viewed}
 use Rattle.view.proofs.Counted.{tasks-are, points-are}
 use Rattle.sheet.proofs.Laid as Laid
 use Rattle.sheet.proofs.Laid.{reads-laid}
-use Rattle.table.specs.Cells.{Fillable}
-use Rattle.table.proofs.Filling.{shown-after}
+use Rattle.table.proofs.Filling.{fillable, shown-after}
 use Rattle.complete.specs.Completed.{Completable}
 use Rattle.start.specs.Choosing.{Startable}
 use Rattle.start.proofs.Starting.{roundFrom}
@@ -72,14 +70,6 @@ module _ (b : List ℕ) (h : Reads b) where
     pub full-is : {k : ℕ} → k ≡ fullOf (v .tasks) → k ≡ full (decode b .tasks)
     full-is q = q ∙ ap fullOf (tasks-are viewed) ∙ full-of (decode b .tasks) few
 
-    pub fillable : Fillable b v
-    fillable = record {
-      view = viewed;
-      counts = counts-read b h;
-      plannable = plannable b h;
-      loads = loads-hold (decode b) (light (decode b) (h .light));
-    }
-
     -- of the cells once they are filled
     module _ (cells : List ℕ) (room : cellsNeeded (decode b) ≤ length cells) where
       whole : 2 ^ decode b .tasks * decode b .points ≤ length (cellsAfter (decode b) cells)
@@ -122,7 +112,7 @@ module _ (b : List ℕ) (h : Reads b) where
           → new ≡ cellsAfter (decode b) cells → Completable b v K p new
       unfolding cellsNeeded
       completable s l k p e = rw (k, p, e) (record {
-        sheet = fillable;
+        sheet = fillable h viewed;
         list = full-lt (decode b .tasks);
         allowed = full-allowed (decode b) (plannable b h .ranges);
         point = plannable b h .ranges .start s l;

@@ -15,17 +15,20 @@ use Rattle.model.proofs.Tools.Folds.{length-mapBelow, mapBelow-at}
 use Rattle.model.proofs.Tools.Refusing.{refused≢accepted, refused-number, accepted-value, returned, returned-refusal, AllPass, Applies}
 use Rattle.model.proofs.Tools.Refusing.{accepted-pass, refused-applies}
 use Rattle.model.proofs.Tools.Refusing.{refuse-append, pass-append, applies-append, answers-by}
+use Rattle.model.proofs.Theory.Cheapest.{cheapest-solution}
+use Rattle.model.proofs.Theory.Solutions.{solution, solution-length}
 use Rattle.model.proofs.Bytes.PlanBytes.{length-is}
 use Rattle.model.proofs.Calls.Reading.{Reads, all-reads, reads-then, accepted-reads, sheet-within}
 use Rattle.model.proofs.Calls.Figures.{sheet-applies, rising-sheet, reading-answers, planning-answers}
 use Rattle.model.proofs.Calls.Planning.{has-plan, planned}
 use Rattle.rank.specs.Binomials.{mostLists}
 use Rattle.rank.proofs.Binomials.{two-layers-less, two-layers-same-1, two-layers-same-2}
-use Rattle.layers.specs.Layers.{layerCells, LayerFilled}
+use Rattle.layers.specs.Layers.{layerCells, OpenCell, LayerFilled}
 use Rattle.price.specs.Pricing.{shortLayer, layerTests, unlessShort, Price, priceOf, priceIn, price, LayerAfter, LayersAfter}
 use Rattle.price.specs.Pricing.{layerOf, priceRow, RowPlace, rowPlace}
 use Rattle.price.specs.Pricing.{priceCost, priceStart}
-use Rattle.price.specs.Claims.{PricingApplies, EitherShort, PricingHolds, PriceIsPlan, SameLeft, LayersLeft, FewerCells}
+use Rattle.price.specs.Claims.{PricingApplies, EitherShort, PricingHolds, PriceIsPlan, SameLeft, LentOrCost, rowTold, LayersLeft}
+use Rattle.price.specs.Claims.{FewerCells}
 use Rattle.price.proofs.Fits.{Fits, fits, fits-then, fits-0, refused-alike-22, priced, row-there}
 use Rattle.price.proofs.Quoting.{row-shows}
 
@@ -133,6 +136,11 @@ pass-or-alike [] a c r e = inl tt
 pass-or-alike ((n when true) ∷ ts) a c r e = inr (ap refused (refused-number e))
 pass-or-alike ((n when false) ∷ ts) a c r e = ⊎-elim (λ p. inl (refl, p)) inr (pass-or-alike ts a c r e)
 
+-- what planning answers is the cheapest plan
+is-cheapest : (b : List ℕ) (cells room : ℕ) (x : Plan) → planFor b cells room ≡ accepted x → Reads b × (orNoOrder (cheapest (decode b)) ≡ accepted x)
+unfolding planFor
+is-cheapest b cells room x e = let r = accepted-reads b _ x e in (r .0, accepted-pass (roomTests (decode b) cells room) _ x (r .1) .1)
+
 module _ (b : List ℕ) (even odd cells room : ℕ) where
   -- what is left for a sheet that reads is not one of its own numbers
   room-number : (r : ℕ) → Reads b → planFor b cells room ≡ refused r → 17 < r
@@ -153,11 +161,6 @@ module _ (b : List ℕ) (even odd cells room : ℕ) where
       (λ a. absurd (refused≢accepted (sym (a .1) ∙ ap (λ o. priceIn (decode b) (orNoOrder o)) (x .1))))
       (refused-applies (layerTests (decode b) even odd) _ r (sym (reads-then b _ h) ∙ e))
 
-  -- what planning answers is the cheapest plan
-  is-cheapest : (x : Plan) → planFor b cells room ≡ accepted x → Reads b × (orNoOrder (cheapest (decode b)) ≡ accepted x)
-  unfolding planFor
-  is-cheapest x e = let r = accepted-reads b _ x e in (r .0, accepted-pass (roomTests (decode b) cells room) _ x (r .1) .1)
-
   -- and with room the cheapest plan is what planning answers
   plan-given : (x : Plan) → Reads b → cheapest (decode b) ≡ some x → 2 ^ decode b .tasks * decode b .points ≤ cells → 32 + 2 * decode b .tasks ≤ room
       → planFor b cells room ≡ accepted x
@@ -167,10 +170,10 @@ module _ (b : List ℕ) (even odd cells room : ℕ) where
       reads-then b _ h ∙ rw (le-ltb cells (2 ^ decode b .tasks * decode b .points) c, le-ltb room (planLength (decode b .tasks)) long, e)
 
   pub price-is-plan : PriceIsPlan b even odd cells room
-  unfolding price planFor priceOf unlessFault unlessShort
+  unfolding price planFor priceOf unlessFault unlessShort layerCells
   price-is-plan = record {
     priced = λ x e l m.
-        let r = is-cheapest x e in
+        let r = is-cheapest b cells room x e in
         fits-then b even odd _ (record { reads = r .0; even-room = l; odd-room = m }) ∙ ap (priceIn (decode b)) (r .1);
     planned = λ y e c l.
         let f = fits b even odd _ e in
@@ -183,6 +186,14 @@ module _ (b : List ℕ) (even odd cells room : ℕ) where
     );
   }
 
+-- the cheapest plan has as many doors as there are tasks
+as-many-doors : (b : List ℕ) (x : Plan) → Reads b × (orNoOrder (cheapest (decode b)) ≡ accepted x) → length (x .doors) ≡ decode b .tasks
+as-many-doors b x h =
+    let y = has-plan b (h .0) in
+    let same : y .0 ≡ x = accepted-value (sym (ap orNoOrder (y .1)) ∙ h .1) in
+    let is : cheapest (decode b) ≡ some x = y .1 ∙ ap some same in
+    solution-length (decode b) (x .start) (x .doors) (solution (decode b) (x .start) (x .doors) (cheapest-solution (decode b) x is))
+
 -- by what is returned and left
 pub same-left : (b cells buffer : List ℕ) (even odd : ℕ) → SameLeft b cells buffer even odd
 unfolding plan layerCells
@@ -190,7 +201,7 @@ same-left b cells buffer even odd cost start e f = go (planFor b (length cells) 
   where
     go : (a : Answer Plan) → planFor b (length cells) (length buffer) ≡ a
         → (placed priceCost (price b even odd) cost ≡ placedNumber (plan b cells buffer .answer) cost)
-        × ((doors : List ℕ) × (plan b cells buffer .bytes
+        × ((doors : List ℕ) × (length doors ≡ decode b .tasks) × (plan b cells buffer .bytes
         ≡ overwrite (planBytes (decode b .tasks) (placed priceStart (price b even odd) start) doors (placed priceCost (price b even odd) cost)) buffer))
     go (refused r) q =
         let a = planning-answers b cells buffer in
@@ -199,11 +210,18 @@ same-left b cells buffer even odd cost start e f = go (planFor b (length cells) 
     go (accepted x) q =
         let room = pricing b even odd .returns-0 .0 f in
         let p = price-is-plan b even odd (length cells) (length buffer) .priced x q (room .1) (room .2) in
-        rw (q, p) (refl, (x .doors, refl))
+        rw (q, p) (refl, (x .doors, as-many-doors b x (is-cheapest b (length cells) (length buffer) x q), refl))
 
 -- ---- the layers and the row
 
+-- what an open cell holds, in plain facts
+plain : (S : Sheet) (parity i x y : ℕ) → OpenCell S parity i x y → LentOrCost S parity i x y
+plain S parity i x y (inl e) = inl e
+plain S parity i x y (inr c) = inr (c .list, c .listed, c .allowed, c .of-layer, c .ranked, c .is)
+
 module _ (b even odd even' odd' : List ℕ) where
+  -- ---- left by a refusal, left by a price
+
   left-as : (a : Answer Price) → LayerAfter a (decode b) 0 even even' × LayerAfter a (decode b) 1 odd odd'
       → (length even' ≡ length even) × (length odd' ≡ length odd)
   left-as (refused r) h = (ap length (h .0), ap length (h .1))
@@ -230,23 +248,34 @@ module _ (b even odd even' odd' : List ℕ) where
         let a = accepted (is-priced .0) in
         let k : LayerAfter a (decode b) 0 even even' × LayerAfter a (decode b) 1 odd odd' = rw (is-priced .1) at h in k
 
+    lent : Fits b (length even') (length odd')
+    lent = record {
+      reads = fitted .reads;
+      even-room = rw (both .0 .as-many) (fitted .even-room);
+      odd-room = rw (both .1 .as-many) (fitted .odd-room);
+    }
+
     shown : priceRow b even' odd' ≡ mapBelow (decode b .points) (costToGo (decode b) (full (decode b .tasks)))
     shown =
         let w = row-shows b even odd fitted (both .0) (both .1) refl refl refl in
-        let lent : Fits b (length even') (length odd') = record {
-          reads = fitted .reads;
-          even-room = rw (both .0 .as-many) (fitted .even-room);
-          odd-room = rw (both .1 .as-many) (fitted .odd-room);
-        } in
         sym (row-there b even' odd' lent refl refl)
         ∙ ext-getD 0 _ _ (w .0 ∙ sym (length-mapBelow (decode b .points) _))
         (λ i l. let m : i < decode b .points = rw (w .0) at l in w .1 i m ∙ sym (mapBelow-at (decode b .points) _ i 0 m))
 
+    -- as it is told in C
+    told : (layer cells : ℕ) → rowTold b even' odd' layer cells ≡ mapBelow (decode b .points) (costToGo (decode b) (full (decode b .tasks)))
+    unfolding rowPlace
+    told layer cells = rw (fits-then b (length even') (length odd') _ lent) (row-there b even' odd' lent refl refl ∙ shown)
+
   pub layers-left : LayersAfter b even odd even' odd' → LayersLeft b even odd even' odd'
+  unfolding layerCells
   layers-left h = record {
     left-alone = stays (price b (length even) (length odd)) refl h;
     as-many = left-as (price b (length even) (length odd)) h;
+    beyond = λ z i l. let w = both h z in (w .0 .beyond i l, w .1 .beyond i l);
     row-shows = shown h;
+    told-shows = λ layer cells z. told h z layer cells;
+    others = λ z i l. let w = both h z in (plain _ _ _ _ _ (w .0 .others i l), plain _ _ _ _ _ (w .1 .others i l));
   }
 
 -- ---- fewer cells

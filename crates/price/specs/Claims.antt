@@ -1,12 +1,16 @@
--- What is claimed of pricing, in plain facts and as a caller from C sees it (02, Req 01). `pricing`, `price-is-plan`, `layers-left` and `fewer-cells` prove it.
+-- What is claimed of pricing, in plain facts and as a caller from C sees it (02, Req 01). `pricing`, `price-is-plan`, `same-left`, `layers-left` and `fewer-cells`
+-- prove it.
 -- Assumes nothing.
 use mathlib.Core.Path.{_≡_}
 use mathlib.Core.Logic.{_⊎_, _↔_}
+use mathlib.Core.Bool.{true, cond}
 use mathlib.Core.List.{List, []}
-use Prim.Native.Nat.{ℕ, _+_, _*_, _^_, _≤_, _<_}
-use lib.ListN.{length}
+use Prim.Native.Nat.{ℕ, _+_, _*_, _/_, _%_, _^_, _≤_, _<_}
+use lib.Dec.{eqb}
+use lib.ListN.{length, getD, take}
 use Rattle.model.specs.Folds.{mapBelow}
-use Rattle.model.specs.TaskList.{full}
+use Rattle.model.specs.TaskList.{full, size}
+use Rattle.model.specs.Orders.{pairsAllow}
 use Rattle.model.specs.Sheet.{Sheet}
 use Rattle.model.specs.Plans.{Plan, planCost, costToGo}
 use Rattle.model.specs.Bytes.{overwrite}
@@ -18,8 +22,9 @@ use Rattle.model.specs.Planning.{cellsNeeded, planFor, plan}
 use Rattle.model.specs.Demands.{SheetNumber}
 use Rattle.model.specs.Figures.{tasksStated, pointsStated, SheetApplies, AnswersBy}
 use Rattle.rank.specs.Binomials.{mostLists}
+use Rattle.rank.specs.Ranks.{rank}
 use Rattle.layers.specs.Layers.{layerCells}
-use Rattle.price.specs.Pricing.{Price, price, LayersAfter, priceRow, rowPlace, priceCost, priceStart}
+use Rattle.price.specs.Pricing.{Price, price, LayersAfter, priceRow, rowPlace, priceCost, priceStart, rowLayer, rowCells}
 
 -- ---- what the numbers of pricing mean
 
@@ -50,7 +55,7 @@ pub record PricingHolds (b : List ℕ) (even odd : ℕ) : Type 0 where
 
 pub record PriceIsPlan (b : List ℕ) (even odd cells room : ℕ) : Type 0 where
   -- where planning answers with a plan, pricing answers, given room, with its cost and its start
-  pub priced : (x : Plan) → planFor b cells room ≡ accepted x → layerCells (decode b) ≤ even → layerCells (decode b) ≤ odd
+  pub priced : (x : Plan) → planFor b cells room ≡ accepted x → mostLists (decode b .tasks) * decode b .points ≤ even → mostLists (decode b .tasks) * decode b .points ≤ odd
       → price b even odd ≡ accepted (record { cost = planCost (decode b) x; start = x .start })
   -- where pricing answers, planning answers, given room, with a plan of that cost and that start
   pub planned : (y : Price) → price b even odd ≡ accepted y → 2 ^ decode b .tasks * decode b .points ≤ cells → 32 + 2 * decode b .tasks ≤ room
@@ -58,22 +63,42 @@ pub record PriceIsPlan (b : List ℕ) (even odd cells room : ℕ) : Type 0 where
   -- and both refuse a sheet with the same of its own numbers
   pub refused-alike : (r : ℕ) → SheetNumber r → (planFor b cells room ≡ refused r) ↔ (price b even odd ≡ refused r)
 
--- by what is returned and left: where planning returns 0, *cost of both is the same, and the plan's bytes have *start of pricing as their start, and that cost
+-- by what is returned and left: where planning and pricing return 0, *cost of both is the same, and the plan's bytes have *start of pricing as their start, that cost, and
+-- as many doors as there are tasks
 abbrev pub SameLeft : List ℕ → List ℕ → List ℕ → ℕ → ℕ → Type 0
 SameLeft b cells buffer even odd = (cost start : ℕ) → status (plan b cells buffer .answer) ≡ 0 → status (price b even odd) ≡ 0
     → (placed priceCost (price b even odd) cost ≡ placedNumber (plan b cells buffer .answer) cost)
-    × ((doors : List ℕ) × (plan b cells buffer .bytes
+    × ((doors : List ℕ) × (length doors ≡ decode b .tasks) × (plan b cells buffer .bytes
     ≡ overwrite (planBytes (decode b .tasks) (placed priceStart (price b even odd) start) doors (placed priceCost (price b even odd) cost)) buffer))
 
 -- ---- the layers and the row
 
+-- cell i of the layer of a parity held x and holds y: it is as lent, or the cost to go from point i % P of a list that the pairs allow, of rank i / P and of that parity
+abbrev pub LentOrCost : Sheet → ℕ → ℕ → ℕ → ℕ → Type 0
+LentOrCost S parity i x y = (y ≡ x)
+    ⊎ ((K : ℕ) × (K < 2 ^ S .tasks) × (pairsAllow S K ≡ true) × (size (S .tasks) K % 2 ≡ parity) × (rank (S .tasks) K ≡ i / S .points) × (y ≡ costToGo S K (i % S .points)))
+
+-- the layer that the row call tells, by what it leaves in *layer, and the front of it that *cells tells
+abbrev pub rowTold : List ℕ → List ℕ → List ℕ → ℕ → ℕ → List ℕ
+rowTold b even odd layer cells =
+    let place = rowPlace b (length even) (length odd) in take (placed rowCells place cells) (cond (eqb (placed rowLayer place layer) 0) even odd)
+
 pub record LayersLeft (b even odd even' odd' : List ℕ) : Type 0 where
   -- on refusal both layers stay, every cell, and there is no row
   pub left-alone : (status (price b (length even) (length odd)) ≡ 0 → ⊥) → (even' ≡ even) × (odd' ≡ odd) × (priceRow b even' odd' ≡ [])
-  -- otherwise their lengths stay, and the row shows the costs to go of the whole round
+  -- their lengths stay in any case
   pub as-many : (length even' ≡ length even) × (length odd' ≡ length odd)
+  -- otherwise the cells from B times P on stay
+  pub beyond : status (price b (length even) (length odd)) ≡ 0 → (i : ℕ) → mostLists (decode b .tasks) * decode b .points ≤ i
+      → (getD even' i 0 ≡ getD even i 0) × (getD odd' i 0 ≡ getD odd i 0)
+  -- the row shows the costs to go of the whole round, as the row call hands it back and as it tells it in C
   pub row-shows : status (price b (length even) (length odd)) ≡ 0
       → priceRow b even' odd' ≡ mapBelow (decode b .points) (costToGo (decode b) (full (decode b .tasks)))
+  pub told-shows : (layer cells : ℕ) → status (price b (length even) (length odd)) ≡ 0
+      → rowTold b even' odd' layer cells ≡ mapBelow (decode b .points) (costToGo (decode b) (full (decode b .tasks)))
+  -- and the others are open: of them this much holds
+  pub others : status (price b (length even) (length odd)) ≡ 0 → (i : ℕ) → i < mostLists (decode b .tasks) * decode b .points
+      → LentOrCost (decode b) 0 i (getD even i 0) (getD even' i 0) × LentOrCost (decode b) 1 i (getD odd i 0) (getD odd' i 0)
 
 -- ---- fewer cells
 

@@ -1,13 +1,13 @@
 -- Sheet A priced, as a computed check (02, Req 01; 01, Sheet A and its neighbours). Assumes nothing.
 use mathlib.Core.Bool.{Bool, false, _&&_}
-use mathlib.Core.List.{List, [], _∷_}
+use mathlib.Core.List.{List, [], _∷_, _++_}
 use Prim.Native.Nat.{ℕ}
 use lib.Dec.{eqb}
 use Rattle.model.specs.Folds.{sameList, mapBelow}
 use Rattle.model.specs.Plans.{costToGo}
 use Rattle.model.specs.Answer.{Answer, refused, accepted, status}
 use Rattle.model.specs.SheetLayout.{decode}
-use Rattle.model.specs.Examples.{sheetA, likeA, pairBytes}
+use Rattle.model.specs.Examples.{sheetA, headOf, likeA, pairBytes}
 use Rattle.layers.specs.Layers.{layerCells}
 use Rattle.price.specs.Pricing.{Price, price, priceRow, RowPlace, rowPlace}
 
@@ -20,6 +20,17 @@ isPrice c s (accepted x) = eqb (x .cost) c && eqb (x .start) s
 abbrev isPlace : ℕ → ℕ → Answer RowPlace → Bool
 isPlace l p (refused n) = false
 isPlace l p (accepted x) = eqb (x .layer) l && eqb (x .cells) p
+
+-- one task and two points: E 10, w +5, a door at point 1 with work 4, a start at point 0, end costs 7 and 9, distances 0 3 and 2 0
+abbrev oneTask : List ℕ
+oneTask = headOf 10 1 1 1 0 0 2
+    ++ (5 ∷ 0
+    ∷ 0 ∷ 0 ∷ 1 ∷ 0 ∷ 1 ∷ 0 ∷ 4 ∷ 0 ∷ 0 ∷ 0
+    ∷ 0 ∷ 0
+    ∷ 7 ∷ 0 ∷ 0 ∷ 0 ∷ 9 ∷ 0 ∷ 0 ∷ 0
+    ∷ 0 ∷ 0 ∷ 3 ∷ 0
+    ∷ 2 ∷ 0 ∷ 0 ∷ 0
+    ∷ [])
 
 -- six cells a layer: two lists of one size at most, three points
 unfoldable pub checkPriced : Bool
@@ -42,3 +53,8 @@ checkPriced =
     && sameList (priceRow sheetA (92 ∷ 68 ∷ 90 ∷ 1 ∷ 2 ∷ 3 ∷ 4 ∷ []) (5 ∷ 6 ∷ 7 ∷ 8 ∷ 9 ∷ 10 ∷ [])) (92 ∷ 68 ∷ 90 ∷ [])
     && sameList (priceRow sheetA (92 ∷ 68 ∷ 90 ∷ 1 ∷ 2 ∷ []) (5 ∷ 6 ∷ 7 ∷ 8 ∷ 9 ∷ 10 ∷ [])) []
     && isPlace 0 3 (rowPlace sheetA 6 6)
+    -- with one task the row is in the odd layer: 3 times 15 for the way, 4 and 9 from point 0, and 4 and 9 from point 1
+    && isPrice 58 0 (price oneTask 2 2)
+    && sameList (mapBelow 2 (costToGo (decode oneTask) 1)) (58 ∷ 13 ∷ [])
+    && sameList (priceRow oneTask (1 ∷ 2 ∷ 3 ∷ []) (58 ∷ 13 ∷ 4 ∷ [])) (58 ∷ 13 ∷ [])
+    && isPlace 1 2 (rowPlace oneTask 2 2)

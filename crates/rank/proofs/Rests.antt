@@ -9,7 +9,7 @@ use Rattle.model.proofs.Tools.Arrays.{map-set}
 use Rattle.model.proofs.TaskLists.Masks.{bit-none, bit-above, without-same, without-other, without-le, without-none, size-without, size-le}
 use Rattle.model.proofs.TaskLists.Masks.{same-members, by-bit}
 use Rattle.rank.specs.Binomials.{binomial}
-use Rattle.rank.specs.Ranks.{rank, rankPart, binomialRank, maxRanked, rankOf, restRows}
+use Rattle.rank.specs.Ranks.{rank, rankPart, binomialRank, maxRanked, rankOf, rankRows}
 use Rattle.rank.proofs.Sums.{sum-differ}
 use Rattle.rank.proofs.Sizes.{size-cong}
 use Rattle.rank.proofs.Counting.{part-cong, rank-by-binomials, rank-le}
@@ -159,6 +159,6 @@ rows-one P K left t r h e =
     let now : r * P ≡ rowWhile P K (without left t) t = rw (without-same left t, rank-without K t h) (ap (λ (x : ℕ). x * P) e) in
     rw now (map-set maxRanked t (rowWhile P K left) (rowWhile P K (without left t)) h (λ j o. rw (without-other left t j o)))
 
-pub rows-all : (P K left : ℕ) → left ≡ 0 → rowsWhile P K left ≡ restRows P K
-unfolding restRows
+pub rows-all : (P K left : ℕ) → left ≡ 0 → rowsWhile P K left ≡ rankRows P K
+unfolding rankRows
 rows-all P K left z = rows-cong _ _ (λ j l. rw (z, bit-none j))

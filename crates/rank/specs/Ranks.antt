@@ -44,8 +44,8 @@ unfoldable pub mostListsOf : ℕ → ℕ
 mostListsOf n = cond (leb n maxRanked) (mostLists n) 0
 
 -- where the row of K without each task begins, in a layer with a row of P cells for each rank
-unfoldable pub restRows : ℕ → ℕ → List ℕ
-restRows P K = mapBelow maxRanked (λ t. rankOf (without K t) * P)
+unfoldable pub rankRows : ℕ → ℕ → List ℕ
+rankRows P K = mapBelow maxRanked (λ t. rankOf (without K t) * P)
 
 -- L comes next of K's size: above it, with as many of the n tasks, and no list of that size between
 pub record NextOfSize (n K L : ℕ) : Type 0 where

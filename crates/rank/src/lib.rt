@@ -4,7 +4,7 @@ ghost use Prim.Native.Nat.{_*_, _^_, _≤_, _<_};
 ghost use Rattle.model.specs.TaskList.{size};
 ghost use Rattle.model.specs.Method.{maskBits};
 ghost use Rattle.rank.specs.Binomials.{binomial};
-ghost use Rattle.rank.specs.Ranks.{maxRanked, Tabled, rankOf, mostListsOf, restRows, NextOfSize};
+ghost use Rattle.rank.specs.Ranks.{maxRanked, Tabled, rankOf, mostListsOf, rankRows, NextOfSize};
 
 pub const MAX_TASKS: usize = 16;
 
@@ -216,7 +216,7 @@ pub struct ListRows {
 pub fn rows(table: &Table, k: u32, points: u16) -> ListRows
     requires { ⌜ Tabled (now table) ⌝ }
     ensures own { λ r. ⌜ r .own ≡ rankOf k * points ⌝ }
-    ensures rests { λ r. ⌜ r .rests ≡ restRows points k ⌝ }
+    ensures rests { λ r. ⌜ r .rests ≡ rankRows points k ⌝ }
 {
     let all = rank(table, k);
     let apart = points as usize;

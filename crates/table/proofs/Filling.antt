@@ -3,7 +3,7 @@ use Rattle.model.proofs.Basics.{_≡_, refl, sym, ap, ap₂, _∙_, _≢_, ⊎-
 use Rattle.model.proofs.Basics.{_%_, _^_, _≤_, _<_, arith, eqb, ltb, length, getD, take, drop, length-append, List·getD-append}
 use Rattle.model.proofs.Basics.{length-take-le, ext-getD, getD-take, eqb-true, eqb-false, ne-eqb, ltb-true, ltb-false, lt-ltb, le-ltb}
 use Rattle.model.proofs.Basics.{le-leb, mul-le-mul-right, pow-pos}
-use Rattle.model.specs.{mapBelow, essential, pairsAllow, costToGo, overwrite, overwriteAt, cellAfter, cellsAfter, InRange}
+use Rattle.model.specs.{mapBelow, essential, pairsAllow, costToGo, overwrite, overwriteAt, cellAfter, cellsAfter, decode, InRange}
 use Rattle.model.specs.Sheet.{Sheet}
 use Rattle.model.proofs.Tools.Tests.{tested, same-test, or-neither}
 use Rattle.model.proofs.Tools.Folds.{length-mapBelow, mapBelow-at}
@@ -13,8 +13,21 @@ use mathlib.Core.Bool.{and-false, or-true}
 use native.Mathlib.Nat.{le-div-iff-mul-le, div-lt-iff-lt-mul, zero-mul, one-mul}
 use lib.Arith.{digits-lt, digits-div, digits-mod}
 use lib.Seq.{getD-drop, getD-append-add}
-use Rattle.table.specs.Cells.{cellBelow, cellsBelow, Shown}
+use Rattle.model.proofs.Theory.Loads.{light, loads-hold}
+use Rattle.model.proofs.Calls.{Reading.Reads, Reading.counts-read, Planning.plannable}
+use Rattle.view.specs.declared.View.{View}
+use Rattle.view.specs.Views.{Viewed}
+use Rattle.table.specs.Cells.{cellBelow, cellsBelow, Shown, Fillable}
 use Rattle.table.proofs.Parts.{map-cong-below}
+
+-- a sheet that reads can be filled
+pub fillable : {b : List ℕ} {v : View} → Reads b → Viewed b v → Fillable b v
+fillable {b} h w = record {
+  view = w;
+  counts = counts-read b h;
+  plannable = plannable b h;
+  loads = loads-hold (decode b) (light (decode b) (h .light));
+}
 
 -- ---- an element of what was overwritten
 

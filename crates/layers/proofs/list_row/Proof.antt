@@ -7,7 +7,7 @@ use Rattle.view.proofs.Counted.{points-are}
 use Rattle.table.proofs.Parts.{row-ends, row-length, row-written}
 use Rattle.table.proofs.Bellman.{essential-size, OpenList}
 use Rattle.table.proofs.ListRows.{Holding, load-asks, gather-asks, hold, given, row-of}
-use Rattle.rank.specs.Ranks.{rank, restRows}
+use Rattle.rank.specs.Ranks.{rank, rankRows}
 use Rattle.rank.proofs.Counting.{rank-of}
 use Rattle.layers.specs.Layers.{withRow}
 use Rattle.layers.proofs.Layering.{row-room, rests-stand}
@@ -43,7 +43,7 @@ small c = omega (arith, held c)
 
 -- the list is open, and its rests stand in the layer below
 is-open : (c : tie.After-rows) →
-    let a = entered c .args in OpenList (a .s .now) (a .v) (a .k) (a .below .now) (restRows (decode (a .s .now) .points) (a .k))
+    let a = entered c .args in OpenList (a .s .now) (a .v) (a .k) (a .below .now) (rankRows (decode (a .s .now) .points) (a .k))
 is-open c =
     let a = entered c .args in
     let p = entered c .pre in
@@ -57,16 +57,16 @@ is-open c =
       rests = rests-stand (a .k) _ (f .plannable .ranges) (f .counts .tasks) (p .2) (p .3) (omega (arith, m .1)) (p .0 .room-below) (p .4);
     }
 
-rests-are : (c : tie.After-rows) → let a = entered c .args in c .rows .result .rests ≡ restRows (decode (a .s .now) .points) (a .k)
+rests-are : (c : tie.After-rows) → let a = entered c .args in c .rows .result .rests ≡ rankRows (decode (a .s .now) .points) (a .k)
 rests-are c =
-    let s = entered c in c .rows .ensures .1 ∙ ap (λ (n : ℕ). restRows n (s .args .k)) (points-are (s .pre .0 .sheet .view))
+    let s = entered c in c .rows .ensures .1 ∙ ap (λ (n : ℕ). rankRows n (s .args .k)) (points-are (s .pre .0 .sheet .view))
 
 -- what the code has once the doors are gathered
 holds : (c : tie.After-gather) →
     let r = begun (c .before) in
     let a = entered r .args in
     let l = c .gather .last .1 .1 .1 .1 .1 .1 in
-    Holding (decode (a .s .now)) (a .k) (a .below .now) (restRows (decode (a .s .now) .points) (a .k)) (r .before .load .result) (c .gather .result)
+    Holding (decode (a .s .now)) (a .k) (a .below .now) (rankRows (decode (a .s .now) .points) (a .k)) (r .before .load .result) (c .gather .result)
     (l .0) (l .1 .0) (l .1 .1 .0)
 holds c = let r = begun (c .before) in hold (is-open r) (rests-are r) _ _ _ (r .before .load .ensures) (c .gather .ensures)
 

@@ -6,10 +6,11 @@ use Rattle.model.proofs.Calls.Reading.{Reads}
 use Rattle.model.proofs.Calls.Interface.{reads-sheet}
 use Rattle.view.specs.Views.{Viewed}
 use Rattle.view.proofs.Counted.{tasks-are, points-are}
+use Rattle.table.proofs.Filling.{fillable}
 use Rattle.complete.specs.Completed.{completed}
 use Rattle.start.specs.Choosing.{firstStart}
 use Rattle.start.proofs.Starting.{roundFrom, chosen-below}
-use Rattle.planner.proofs.Sheets.{Roomy, in-parts, few, few-cells, short-buffer, viewed, full-is, fillable, row-within}
+use Rattle.planner.proofs.Sheets.{Roomy, in-parts, few, few-cells, short-buffer, viewed, full-is, row-within}
 use Rattle.planner.proofs.Sheets.{startable, row-shows, completable}
 use Rattle.planner.proofs.Carried.{carried-out}
 use Rattle.planner.proofs.plan_sheet.Statement.{statement}
@@ -104,7 +105,7 @@ returns-2 c =
     (rw (← tasks-are (seen s), ← c .before .before .byte-length .ensures) (ltb-true _ _ (c .if2 .taken))))
 
 fill-requires : tie.Need-fill-requires
-fill-requires c κs = let s = entered (c .before) in (fillable _ (reads s) (s .pre .1), roomy (c .before) .room)
+fill-requires c κs = let s = entered (c .before) in (fillable (reads s) (seen s), roomy (c .before) .room)
 
 mul-from : tie.Need-mul-from
 mul-from c =

@@ -5,7 +5,7 @@ use Rattle.model.proofs.Calls.Reading.{Reads}
 use Rattle.model.proofs.Calls.Interface.{reads-sheet}
 use Rattle.view.specs.Views.{Viewed}
 use Rattle.view.proofs.Counted.{tasks-are, points-are}
-use Rattle.planner.proofs.Sheets.{viewed}
+use Rattle.sheet.proofs.Laid.{viewed, reads-laid}
 use Rattle.layers.specs.Layers.{layerCells}
 use Rattle.price.specs.Pricing.{shortLayer, rowPlace}
 use Rattle.price.proofs.Fits.{needed-is, then-short}
@@ -16,7 +16,7 @@ reads : (c : tie.Start) → Reads (c .args .s .now)
 reads c = reads-sheet (c .args .s .now) (c .pre .0)
 
 seen : (c : tie.Start) → Viewed (c .args .s .now) (c .args .v)
-seen c = viewed _ (reads c) (c .pre .1)
+seen c = viewed (reads-laid (reads c)) (c .pre .1)
 
 mul-needed : tie.Need-mul-needed
 mul-needed c =

@@ -3,7 +3,8 @@ use Rattle.model.proofs.Basics.{_≡_, ap, _∙_, length, needs}
 use Rattle.model.specs.{decode}
 use Rattle.view.specs.Views.{Viewed}
 use Rattle.view.proofs.Counted.{tasks-are, points-are}
-use Rattle.planner.proofs.Sheets.{viewed, fillable}
+use Rattle.sheet.proofs.Laid.{viewed, reads-laid}
+use Rattle.table.proofs.Filling.{fillable}
 use Rattle.layers.specs.Layers.{Layered}
 use Rattle.layers.proofs.Layering.{row-within}
 use Rattle.price.proofs.Fits.{Fits, fits-0}
@@ -23,14 +24,14 @@ fitted : (c : tie.Start) → Fits (c .args .s .now) (length (c .args .even .now)
 fitted c = fits-0 _ _ _ (c .pre .0)
 
 seen : (c : tie.Start) → Viewed (c .args .s .now) (c .args .v)
-seen c = viewed _ (fitted c .reads) (c .pre .1)
+seen c = viewed (reads-laid (fitted c .reads)) (c .pre .1)
 
 -- ---- the needs
 
 fill-requires : tie.Need-fill-requires
 fill-requires c κs =
     let s = c .before .before .before .before .before in
-    record { sheet = fillable _ (fitted s .reads) (s .pre .1); room-below = fitted s .even-room; room-here = fitted s .odd-room }
+    record { sheet = fillable (fitted s .reads) (seen s); room-below = fitted s .even-room; room-here = fitted s .odd-room }
 
 whole-requires : tie.Need-whole-requires
 whole-requires c κs =

@@ -2,7 +2,7 @@
 use Rattle.model.proofs.Basics.{_≡_, sym, ap, _∙_, length, needs}
 use Rattle.view.specs.Views.{viewOf, Viewed}
 use Rattle.view.proofs.Counted.{tasks-are, points-are}
-use Rattle.planner.proofs.Sheets.{viewed}
+use Rattle.sheet.proofs.Laid.{viewed, reads-laid}
 use Rattle.layers.proofs.Layering.{row-within}
 use Rattle.price.specs.Pricing.{rowPlace}
 use Rattle.price.specs.Answers.{placeOf, viewIn}
@@ -20,7 +20,7 @@ unfolding rowPlace
 fitted c = fits _ _ _ _ (sym (c .before .before .before .fit .ensures .0) ∙ ap placeOf (c .before .fitting .given .1)) .0
 
 seen : (c : tie.After-known-told) → Viewed (entered c .args .s .now) (c .before .fitting .given .0 .0)
-seen c = viewed _ (fitted c .reads)
+seen c = viewed (reads-laid (fitted c .reads))
     (ap (λ (x : Fitting). viewIn x (viewOf (entered c .args .s .now))) (sym (c .before .fitting .given .1)) ∙ c .before .before .before .fit .ensures .1)
 
 whole-requires : tie.Need-whole-requires

@@ -18,7 +18,7 @@ abbrev μ-loop : tie.MeasureT-loop
 loop-holds : tie.Need-loop-holds Inv-loop μ-loop
 loop-holds c = none-ranked _ _ (omega arith)
 
--- a count of zeros, from either end, is at most the width
+-- a count of zeros is at most the width: from either end, so that one from the wrong end fails by its place in the table, and not by its width
 zeros-le : (K : ℕ) → (trailingZeros maskBits K ≤ maskBits) × (leadingZeros maskBits K ≤ maskBits)
 zeros-le K = (trailing-le maskBits K, leading-le maskBits K)
 
