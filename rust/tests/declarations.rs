@@ -241,6 +241,6 @@ fn the_limits_are_the_same() {
     let document = (9_638, 12, 56, 4_096 * 64);
     let limits = (MAX_SHEET_BYTES, MAX_PLAN_DOORS, MAX_PLAN_BYTES, MAX_CELLS);
     assert_eq!(limits, document);
-    // Document 02's: 924 lists of six of twelve tasks.
+    // 924 lists of six of twelve tasks, times 64 points.
     assert_eq!(MAX_LAYER_CELLS, 924 * 64);
 }

@@ -7,7 +7,7 @@ use crate::common::pricing::most_lists;
 use crate::common::rng::Rng;
 use vanplan::{Counts, MAX_CELLS, MAX_LAYER_CELLS};
 
-/// B for 1 to 12 tasks, as document 02 has it.
+/// B for 1 to 12 tasks: the largest number of lists of one size, which document 02 asks for.
 const MOST_LISTS: [usize; 12] = [1, 2, 3, 6, 10, 20, 35, 70, 126, 252, 462, 924];
 
 #[test]
