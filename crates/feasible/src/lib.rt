@@ -4,7 +4,7 @@ ghost use Prim.Native.Nat.{ℕ, _≤_, _<_};
 ghost use lib.ListN.{length};
 ghost use Rattle.model.specs.Folds.{mapBelow};
 ghost use Rattle.model.specs.SheetLayout.{maxTasks, decode};
-ghost use Rattle.model.specs.Method.{maskBits, maxListed, sendersOf, somethingLeft};
+ghost use Rattle.model.specs.Method.{maskBits, sendersOf, somethingLeft};
 ghost use Rattle.model.specs.Faults.{someLacksDoor, tooLight};
 ghost use Rattle.model.specs.Passing.{InRange};
 ghost use Rattle.view.specs.Views.{Viewed};
@@ -100,7 +100,7 @@ fn strike_pass(senders: &[u32], n: u16, k: u32) -> u32
 // Fault 17, decided by striking off, again and again, each task that can come first in what is left: whether as many passes as there are
 // tasks leave something of the full list.
 pub fn something_left(s: &[u8], v: View) -> bool
-    requires { ⌜ Viewed (now s) v × (decode (now s) .tasks ≤ maxListed) × InRange (decode (now s)) ⌝ }
+    requires { ⌜ Viewed (now s) v × (decode (now s) .tasks ≤ maxTasks) × InRange (decode (now s)) ⌝ }
     ensures { λ r. ⌜ r ≡ somethingLeft (decode (now (s .entry))) ⌝ }
 {
     let tasks = v.tasks;

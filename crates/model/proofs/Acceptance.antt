@@ -44,7 +44,7 @@ further = examples .1
 pub neighbours : T checkNeighbours
 neighbours = examples .2
 
--- the code's masks and powers of two, lists that meet, and what a task waits for
+-- the code's masks, its numbers of lists and full lists, lists that meet, and what a task waits for
 pub method : T checkMethod
 method = examples .3
 

@@ -9,4 +9,5 @@ pub mod Demands
 pub mod Interface
 pub mod Figures
 pub mod PlanFigures
+pub mod Powers
 pub mod Judged

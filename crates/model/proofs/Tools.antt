@@ -1,5 +1,6 @@
 -- Tools: tests that compute, folds, lists, loops that search, sum or choose, and calls that refuse. They say nothing of sheets.
 pub mod Tests
+pub mod Tables
 pub mod Folds
 pub mod Lists
 pub mod Elements

@@ -56,4 +56,4 @@ unfoldable pub use Printing.{decimal, refusalLine, stepLine, planLines, printedW
 pub use Printing.{ascii, decimalBy, lineEnd, stepLines, answerLines, Printed, printInput, printCells}
 pub use Passing.{EntriesWithin, CountsWithin, InRange, LeastCounts, Served, Passes, Plannable, down, Light, LoadsHold}
 unfoldable pub use Method.{withIn, listsOf, fullOf, isFree, canComeFirst, firstDoors, meets, sendersOf, somethingLeft}
-pub use Method.{maskBits, maxListed, sendersBelow, strike, strikeBelow, strikeOff, legs, chargesOn, openOn}
+pub use Method.{maskBits, sendersBelow, strike, strikeBelow, strikeOff, legs, chargesOn, openOn}

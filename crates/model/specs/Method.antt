@@ -1,9 +1,9 @@
--- What only the code's way of working needs, and no other definition: lists as masks of a width, powers of two up to a limit, the tasks and doors that
+-- What only the code's way of working needs, and no other definition: lists as masks of a width, how many there are and the full one, the tasks and doors that
 -- can come first (000, (4.1)), striking them off, by which 17 is decided, and the parts that a route's cost is added up by. Assumes nothing.
 use mathlib.Core.Bool.{Bool, cond, not, _&&_}
 use mathlib.Core.List.{List, [], _∷_, map}
 use Prim.Native.Nat.{ℕ, zero, suc, _+_, _*_, _^_}
-use lib.Dec.{eqb, ltb, leb}
+use lib.Dec.{eqb, ltb}
 use lib.IntN.{natAbs}
 use Rattle.model.specs.Folds.{allBelow, anyBelow, passingBelow}
 use Rattle.model.specs.TaskList.{member, with, without, full, maskOf}
@@ -21,17 +21,13 @@ maskBits = 32
 unfoldable pub withIn : ℕ → ℕ → ℕ → ℕ
 withIn w K j = cond (ltb j w) (with K j) K
 
--- the most tasks that the code has a power of two for (01, Working)
-abbrev pub maxListed : ℕ
-maxListed = 12
-
--- the number of lists of n tasks, or 0 where n is above that (01, Working)
+-- the number of lists of n tasks where a mask has room for that number, and 0 from 32 tasks on (02, Req 02)
 unfoldable pub listsOf : ℕ → ℕ
-listsOf n = cond (leb n maxListed) (2 ^ n) 0
+listsOf n = cond (ltb n maskBits) (2 ^ n) 0
 
--- the full list of n tasks, or the empty one where n is above that (01, Working)
+-- the full list of n tasks, and there the empty one (02, Req 02)
 unfoldable pub fullOf : ℕ → ℕ
-fullOf n = cond (leb n maxListed) (full n) 0
+fullOf n = cond (ltb n maskBits) (full n) 0
 
 -- ---- what can come first
 

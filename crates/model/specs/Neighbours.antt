@@ -5,7 +5,7 @@ use mathlib.Core.List.{List, [], _∷_, _++_}
 use Prim.Native.Nat.{ℕ, _-_}
 use lib.Dec.{eqb}
 use lib.ListN.{length, getD, set, take, drop}
-use Rattle.model.specs.Folds.{flatMapBelow, sameList}
+use Rattle.model.specs.Folds.{flatMapBelow, mapBelow, sameList}
 use Rattle.model.specs.Answer.{refused, accepted}
 use Rattle.model.specs.SheetLayout.{decode}
 use Rattle.model.specs.Faults.{readSheet}
@@ -73,15 +73,20 @@ threeDoors d₁ d₂ d₃ =
 
 -- ---- the checks
 
--- the code's masks have 32 bits, and its powers of two go up to twelve tasks; lists that meet below a width; what a task waits for
+-- the code's masks have 32 bits; the number of lists and the full list of 0 to 12 tasks, of 13 and 31, and of 32, where a mask has no room for the number; lists that
+-- meet below a width; what a task waits for
 unfoldable pub checkMethod : Bool
 checkMethod =
     eqb (withIn maskBits 5 31) 2147483653
     && eqb (withIn maskBits 5 32) 5
-    && eqb (listsOf 12) 4096
-    && eqb (listsOf 13) 0
-    && eqb (fullOf 12) 4095
-    && eqb (fullOf 13) 0
+    && sameList (mapBelow 13 listsOf) (1 ∷ 2 ∷ 4 ∷ 8 ∷ 16 ∷ 32 ∷ 64 ∷ 128 ∷ 256 ∷ 512 ∷ 1024 ∷ 2048 ∷ 4096 ∷ [])
+    && sameList (mapBelow 13 fullOf) (0 ∷ 1 ∷ 3 ∷ 7 ∷ 15 ∷ 31 ∷ 63 ∷ 127 ∷ 255 ∷ 511 ∷ 1023 ∷ 2047 ∷ 4095 ∷ [])
+    && eqb (listsOf 13) 8192
+    && eqb (listsOf 31) 2147483648
+    && eqb (listsOf 32) 0
+    && eqb (fullOf 13) 8191
+    && eqb (fullOf 31) 2147483647
+    && eqb (fullOf 32) 0
     && meets 3 5 4
     && not (meets 3 5 2)
     && not (meets 2 5 4)

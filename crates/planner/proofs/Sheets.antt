@@ -3,7 +3,7 @@ use Rattle.model.proofs.Basics.{_≡_, refl, sym, ap, ap₂, _∙_, List, ℕ, 
 use Rattle.model.proofs.Basics.{pow-pos, lt-ltb, le-ltb}
 use lib.ListN.{length-drop}
 use lib.Seq.{take-length, getD-drop}
-use Rattle.model.specs.{full, maxListed, listsOf, fullOf, refused, decode, readSheet, planLength, shortRoom, cellsNeeded, fewCells, roomTests}
+use Rattle.model.specs.{full, maskBits, listsOf, fullOf, refused, decode, readSheet, planLength, shortRoom, cellsNeeded, fewCells, roomTests}
 use Rattle.model.specs.{planFor, cellsAfter, Planned, plan}
 use Rattle.model.proofs.TaskLists.Masks.{full-lt, lists-of, full-of}
 use Rattle.model.proofs.Theory.OpenAlong.{full-allowed}
@@ -28,7 +28,7 @@ pub record Roomy (b cells buffer : List ℕ) : Type 0 where
   pub wide : planLength (decode b .tasks) ≤ length buffer
 
 -- the cells that the code counts, n being its number of lists
-pub needed-is : {b : List ℕ} {v : View} {n : ℕ} → Viewed b v → decode b .tasks ≤ maxListed → n ≡ listsOf (v .tasks) → n * v .points ≡ cellsNeeded (decode b)
+pub needed-is : {b : List ℕ} {v : View} {n : ℕ} → Viewed b v → decode b .tasks < maskBits → n ≡ listsOf (v .tasks) → n * v .points ≡ cellsNeeded (decode b)
 unfolding cellsNeeded
 needed-is h few e = ap₂ _*_ (e ∙ ap listsOf (tasks-are h) ∙ lists-of _ few) (points-are h)
 
@@ -43,7 +43,7 @@ unfolding readSheet planFor roomTests fewCells shortRoom
 sheet-refused b cells buffer {r} e = plan-refused b cells buffer r (refused-alike b _ _ _ r refl (sym e))
 
 module _ (b : List ℕ) (h : Reads b) where
-  pub few : decode b .tasks ≤ maxListed
+  pub few : decode b .tasks < maskBits
   few = tasks-listed _ (counts-read b h .tasks)
 
   -- ---- room

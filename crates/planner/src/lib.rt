@@ -1,7 +1,7 @@
 // Planning: the cheapest plan of a sheet, written as bytes, with the table of costs to go left in the cells.
 ghost use mathlib.Core.Path.{_≡_};
-ghost use Prim.Native.Nat.{_≤_};
-ghost use Rattle.model.specs.Method.{maxListed};
+ghost use Prim.Native.Nat.{_<_};
+ghost use Rattle.model.specs.Method.{maskBits};
 ghost use Rattle.model.specs.Answer.{status};
 ghost use Rattle.model.specs.SheetLayout.{decode};
 ghost use Rattle.model.specs.Faults.{readSheet};
@@ -31,9 +31,9 @@ pub fn plan(s: &[u8], cells: &mut [u64], buf: &mut [u8]) -> Planning
     }
 }
 
-// How many cells a sheet of up to twelve tasks needs.
+// How many cells a sheet needs, of fewer tasks than a mask has bits.
 fn cells_needed(s: &[u8], v: View) -> usize
-    requires { ⌜ Viewed (now s) v × (decode (now s) .tasks ≤ maxListed) ⌝ }
+    requires { ⌜ Viewed (now s) v × (decode (now s) .tasks < maskBits) ⌝ }
     ensures { λ r. ⌜ r ≡ cellsNeeded (decode (now (s .entry))) ⌝ }
 {
     tasklist::lists(v.tasks) as usize * v.points as usize

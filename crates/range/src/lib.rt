@@ -1,13 +1,15 @@
 // Fault 14: tasks, points, doors, least counts and watched tasks within their ranges.
 ghost use mathlib.Core.Path.{_≡_};
-ghost use Prim.Native.Nat.{_^_, _≤_, _<_};
-ghost use Rattle.model.specs.Method.{maxListed};
+ghost use Prim.Native.Nat.{_^_, _<_, min};
 ghost use Rattle.model.specs.SheetLayout.{layoutOf, decode};
 ghost use Rattle.model.specs.Faults.{badDoor, badStart, badPair, badRule, someBadDoor, someBadStart, someBadPair, someBadRule, outOfRange};
 ghost use Rattle.view.specs.Views.{Viewed};
 use view::View;
 
 const MAX_LEAST_COUNT: u16 = 12;
+
+// The tasks that a sheet can say are watched: the bits of that number.
+const WATCHED_BITS: u16 = 16;
 
 fn bad_door(s: &[u8], v: View, d: u16) -> bool
     requires { ⌜ Viewed (now s) v × (d < decode (now s) .doors) ⌝ }
@@ -35,9 +37,9 @@ fn bad_pair(s: &[u8], v: View, i: u16) -> bool
     tasks <= view::sender(s, v, i) || tasks <= view::receiver(s, v, i)
 }
 
-// Of a sheet whose tasks have so many lists.
+// Of a sheet whose tasks, as far as they can be watched, have so many lists.
 fn bad_rule(s: &[u8], v: View, lists: u32, i: u16) -> bool
-    requires { ⌜ Viewed (now s) v × (i < decode (now s) .rules) × (lists ≡ 2 ^ decode (now s) .tasks) ⌝ }
+    requires { ⌜ Viewed (now s) v × (i < decode (now s) .rules) × (lists ≡ 2 ^ min (decode (now s) .tasks) 16) ⌝ }
     ensures { λ r. ⌜ r ≡ badRule (layoutOf (now (s .entry))) (decode (now (s .entry))) i ⌝ }
 {
     let least = view::least_count(s, v, i);
@@ -90,13 +92,20 @@ fn some_bad_pair(s: &[u8], v: View) -> bool
     false
 }
 
-// A number of tasks that the table of powers serves is asked for: fault 12 is tested first.
+// How many of so many tasks can be watched.
+fn watchable(tasks: u16) -> u16
+    ensures { λ r. ⌜ r ≡ min tasks 16 ⌝ }
+{
+    if tasks < WATCHED_BITS { tasks } else { WATCHED_BITS }
+}
+
+// The number of lists is that of the tasks that can be watched, which a mask has room for whatever the number of tasks is.
 fn some_bad_rule(s: &[u8], v: View) -> bool
-    requires { ⌜ Viewed (now s) v × (decode (now s) .tasks ≤ maxListed) ⌝ }
+    requires { ⌜ Viewed (now s) v ⌝ }
     ensures { λ r. ⌜ r ≡ someBadRule (layoutOf (now (s .entry))) (decode (now (s .entry))) ⌝ }
 {
     let rules = v.rules;
-    let lists = tasklist::lists(v.tasks);
+    let lists = tasklist::lists(watchable(v.tasks));
     let mut i: u16 = 0;
     while i < rules {
         if bad_rule(s, v, lists, i) {
@@ -108,7 +117,7 @@ fn some_bad_rule(s: &[u8], v: View) -> bool
 }
 
 pub fn out_of_range(s: &[u8], v: View) -> bool
-    requires { ⌜ Viewed (now s) v × (decode (now s) .tasks ≤ maxListed) ⌝ }
+    requires { ⌜ Viewed (now s) v ⌝ }
     ensures { λ r. ⌜ r ≡ outOfRange (layoutOf (now (s .entry))) (decode (now (s .entry))) ⌝ }
 {
     some_bad_door(s, v) || some_bad_start(s, v) || some_bad_pair(s, v) || some_bad_rule(s, v)

@@ -3,7 +3,7 @@ use Rattle.model.proofs.Basics.{_≡_, refl, not, _||_, List, [], _∷_, ℕ, _
 use Rattle.model.proofs.Basics.{getD}
 use Rattle.model.specs.{pointsBody, distancesBody, kind1, entryBytes, entries, bodyAt, layoutOf, wrongEntries}
 use Rattle.model.proofs.Tools.Tests.{outside, exactly}
-use Rattle.tasklist.proofs.Table.{values}
+use Rattle.model.proofs.Tools.Tables.{values}
 
 -- ---- fault 12
 

@@ -1,2 +1,1 @@
 pub mod Shifts
-pub mod Table

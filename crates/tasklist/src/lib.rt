@@ -40,22 +40,14 @@ pub fn watched_in(watched: u32, k: u32) -> u32
     u32::count_ones(k & watched)
 }
 
-const MAX_LISTED: u16 = 12;
-
-const LISTS: [u32; 13] = [1, 2, 4, 8, 16, 32, 64, 128, 256, 512, 1024, 2048, 4096];
-
-// The number of lists of n tasks, 2 to the power n, up to 12 tasks; 0 for more. The code's only source of that power.
+// The number of lists of n tasks, 2 to the power n; 0 from 32 tasks on, where a mask has no room for it. The code's only source of that power.
 pub fn lists(n: u16) -> u32
     ensures { λ r. ⌜ r ≡ listsOf n ⌝ }
 {
-    if n <= MAX_LISTED {
-        LISTS[n as usize]
-    } else {
-        0
-    }
+    if n < MASK_BITS { 1u32 << n } else { 0 }
 }
 
-// The full list of n tasks, up to 12; empty for more.
+// The full list of n tasks; empty from 32 tasks on.
 pub fn full(n: u16) -> u32
     ensures { λ r. ⌜ r ≡ fullOf n ⌝ }
 {

@@ -50,7 +50,7 @@ pub record Stepped (b ds a out : List ℕ) (at end left i : ℕ) : Type 0 where
 module _ {b ds : List ℕ} (S : Steps b ds) {at : ℕ} {a : List ℕ} (room : at + maxStep * maxPlanDoors ≤ length a) where
   pub no-step : {n left : ℕ} → n ≡ decode b .tasks → left ≡ fullOf n → Stepped b ds a a at at left 0
   no-step {n} {left} e f =
-      let whole-list : left ≡ full (decode b .tasks) = f ∙ ap fullOf e ∙ full-of (decode b .tasks) (S .few) in
+      let whole-list : left ≡ full (decode b .tasks) = f ∙ ap fullOf e ∙ full-of (decode b .tasks) (omega (arith, S .few)) in
       record {
         within = omega arith;
         lines = [];

@@ -11,7 +11,7 @@ use Rattle.model.specs.PlanLayout.{maxPlanDoors, startIn, doorsIn, costIn}
 use Rattle.model.specs.Passing.{InRange}
 use Rattle.view.specs.Views.{viewOf, Viewed}
 
--- of the sheet b, the lines of steps: the layout holds, every number is in range, there is a power of two for the tasks, and the doors, no more than a plan has, complete the full list
+-- of the sheet b, the lines of steps: the layout holds, every number is in range, the tasks are no more than a sheet may have, and the doors, no more than a plan has, complete the full list
 pub record Steps (b ds : List ℕ) : Type 0 where
   pub view : Viewed b (viewOf b)
   pub ranges : InRange (decode b)

@@ -1,6 +1,6 @@
 -- The numbers of entries of a sheet that 12 does not refuse. Assumes nothing.
-use Rattle.model.proofs.Basics.{_≡_, false, List, ℕ, _≤_, arith, lit<, not-false}
-use Rattle.model.specs.{maxListed, Layout, tasksBody, doorsBody, startsBody, pairsBody, rulesBody, pointsBody, bodies, maxTasks}
+use Rattle.model.proofs.Basics.{_≡_, false, List, ℕ, _≤_, _<_, arith, lit<, not-false}
+use Rattle.model.specs.{maskBits, Layout, tasksBody, doorsBody, startsBody, pairsBody, rulesBody, pointsBody, bodies, maxTasks}
 use Rattle.model.specs.{kind1, entries, decodeBy, layoutOf, decode, wrongEntries, someWrongEntries, EntriesWithin, CountsWithin}
 use Rattle.model.proofs.Tools.Tests.{between-true, none-at}
 
@@ -8,8 +8,8 @@ pub entries-within : (L : Layout) (b : List ℕ) → someWrongEntries L b ≡ fa
 unfolding someWrongEntries wrongEntries
 entries-within L b h i l = between-true _ _ (entries b i) (not-false _ (none-at bodies (wrongEntries L b) h i l))
 
--- as many tasks as the sheet may have are tasks that the code has a power of two for
-pub tasks-listed : (n : ℕ) → n ≤ maxTasks → n ≤ maxListed
+-- as many tasks as the sheet may have are tasks that a mask has room for the number of lists of
+pub tasks-listed : (n : ℕ) → n ≤ maxTasks → n < maskBits
 tasks-listed n h = omega arith
 
 pub counts-within : (b : List ℕ) → EntriesWithin (layoutOf b) b → CountsWithin (decode b)

@@ -2,8 +2,8 @@
 -- equal members, equal lists. Assumes nothing.
 use Rattle.model.proofs.Basics.{_≡_, refl, sym, ap, _∙_, _≢_, _⊎_, inl, inr, true, false, cond, ℕ, zero, suc, _+_, _-_, _/_, _%_}
 use Rattle.model.proofs.Basics.{_^_, _≤_, _<_, add-zero, pow-succ', mod-lt, zero-lt-suc, zero-div, div-one, div-div-eq-div-mul}
-use Rattle.model.proofs.Basics.{arith, leb, pow-pos, pow-mono, eqb-true, eqb-false, eq-eqb, lt-ltb, le-leb, le-ind}
-use Rattle.model.specs.{sumBelow, countBelow, bit, member, with, without, full, size, watchedIn, withIn, maxListed, listsOf, fullOf}
+use Rattle.model.proofs.Basics.{arith, ltb, pow-pos, pow-mono, eqb-true, eqb-false, eq-eqb, lt-ltb, le-ltb, le-ind}
+use Rattle.model.specs.{sumBelow, countBelow, bit, member, with, without, full, size, watchedIn, withIn, maskBits, listsOf, fullOf}
 use Rattle.model.proofs.Tools.Folds.{sum-cong, sum-none, sum-zero, sum-more, sum-le}
 use Rattle.model.proofs.Tools.Tests.{by-test, by-last}
 
@@ -187,15 +187,19 @@ pub with-in : (w K j : ℕ) → j < w → withIn w K j ≡ with K j
 unfolding withIn
 with-in w K j h = rw lt-ltb
 
--- up to the limit there are 2 to the power n lists, and the full one is the last of them
-pub lists-of : (n : ℕ) → n ≤ maxListed → listsOf n ≡ 2 ^ n
+-- of fewer tasks than a mask has bits there are 2 to the power n lists, and the full one is the last of them
+pub lists-of : (n : ℕ) → n < maskBits → listsOf n ≡ 2 ^ n
 unfolding listsOf
-lists-of n h = rw le-leb
+lists-of n h = rw lt-ltb
 
-pub full-of : (n : ℕ) → n ≤ maxListed → fullOf n ≡ full n
+pub no-lists : (n : ℕ) → maskBits ≤ n → listsOf n ≡ 0
+unfolding listsOf
+no-lists n h = rw le-ltb
+
+pub full-of : (n : ℕ) → n < maskBits → fullOf n ≡ full n
 unfolding fullOf
-full-of n h = rw le-leb
+full-of n h = rw lt-ltb
 
 pub full-lists : (n : ℕ) → listsOf n - 1 ≡ fullOf n
 unfolding listsOf fullOf full
-full-lists n = by-test (leb n maxListed) (λ w. rw w) (λ w. rw w)
+full-lists n = by-test (ltb n maskBits) (λ w. rw w) (λ w. rw w)

@@ -2,7 +2,7 @@
 -- neither makes nor ends an order, and a pass strikes something off unless no task can come first. Assumes nothing.
 use Rattle.model.proofs.Basics.{_≡_, refl, sym, ap, _∙_, subst, _⊎_, inl, inr, ⊎-elim, _↔_, true, false, not, List, [], _∷_, ℕ, zero}
 use Rattle.model.proofs.Basics.{suc, _+_, _^_, _≤_, _<_, arith, eqb, eqb-true, eqb-false, ne-eqb, not-true}
-use Rattle.model.specs.{Sheet.Sheet, Answer.Answer, bit, without, full, size, isAdmissible, isOrderWithin, noOrder, maxListed}
+use Rattle.model.specs.{Sheet.Sheet, Answer.Answer, bit, without, full, size, isAdmissible, isOrderWithin, noOrder, maskBits}
 use Rattle.model.specs.{canComeFirst, strikeBelow, strikeOff, somethingLeft, refused, accepted, refuseIf, decode, tooLight, Counts}
 use Rattle.model.specs.{readSheet, InRange}
 use Rattle.model.proofs.Tools.Tests.{same-test, not-both, and-both, by-test, by-last}
@@ -108,7 +108,7 @@ module _ (S : Sheet) (R : InRange S) where
       absurd (eqb-false _ 0 (not-true _ e) (off-empty (o .0, sym (admissible-is S R (o .0)) ∙ o .1)))))
 
   -- and so by what the code finds left, for as many tasks as it has a power of two for
-  pub something-left : S .tasks ≤ maxListed → noOrder S ≡ somethingLeft S
+  pub something-left : S .tasks < maskBits → noOrder S ≡ somethingLeft S
   unfolding somethingLeft
   something-left few = struck-off ∙ ap (λ (K : ℕ). not (eqb (strikeOff S (S .tasks) K) 0)) (sym (full-of (S .tasks) few))
 

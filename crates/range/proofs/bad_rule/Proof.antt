@@ -1,10 +1,16 @@
 -- The door, the watched list and the least count are held to their limits, each only where the ones before are in range. Assumes nothing.
-use Rattle.model.proofs.Basics.{_≡_, sym, _∙_, ⊎-elim, not, _||_, _^_, leb, lt-ltb, le-ltb, le-leb, lt-leb, needs}
+use Rattle.model.proofs.Basics.{_≡_, sym, _∙_, ⊎-elim, not, _||_, ℕ, _^_, _<_, min, arith, leb, ltb, pow-mono, lt-ltb, le-ltb, le-leb, lt-leb, ltb-true, ltb-false, needs}
 use Rattle.model.specs.{isBetween, kind1, layoutOf, decode, badRule}
-use Rattle.model.proofs.Tools.Tests.{or-last, outside}
+use Rattle.model.proofs.Tools.Tests.{by-test, or-last, outside}
 use Rattle.view.proofs.Counted.{doors-are}
 use Rattle.range.proofs.bad_rule.Statement.{statement}
 use Rattle.range.proofs.bad_rule.Tie as tie
+
+-- a number of 16 bits has no bit from 16 on
+watched-is : (n w : ℕ) → w < 2 ^ 16 → leb (2 ^ min n 16) w ≡ leb (2 ^ n) w
+watched-is n w l = by-test (ltb n 16)
+    (λ t. let h = ltb-true n 16 t in let m : min n 16 ≡ n = omega arith in rw m)
+    (λ t. let h = ltb-false n 16 t in let m : min n 16 ≡ 16 = omega arith in rw (m, lt-leb (2 ^ 16) w l, lt-leb (2 ^ n) w (omega (arith, pow-mono h))))
 
 count-is : (c : tie.Joined1) →
     let a = c .before .before .before .args in
@@ -26,7 +32,7 @@ two c =
     let r = c .before .before .rule-door .ensures in
     ⊎-elim
     (λ w. w .1 ∙ rw (← doors-are (p .0), ← r, le-leb _ _ (w .0 .taken)))
-    (λ w. w .2 ∙ rw (← doors-are (p .0), ← r, ← p .2, ← w .1 .ensures, lt-leb _ _ (w .0 .left)))
+    (λ w. w .2 ∙ rw (← doors-are (p .0), ← r, ← w .1 .ensures, ← watched-is _ (w .1 .result) (omega arith), ← p .2, lt-leb _ _ (w .0 .left)))
     (c .if2 .came)
 
 -- the door or a watched task is out of range

@@ -1,5 +1,5 @@
 -- A search through the rules: none so far is bad. Assumes nothing.
-use Rattle.model.proofs.Basics.{ap, _∙_, _-_, needs}
+use Rattle.model.proofs.Basics.{ap, _∙_, ℕ, _-_, min, arith, needs}
 use Rattle.model.specs.{layoutOf, decode, listsOf, badRule, someBadRule}
 use Rattle.model.proofs.Tools.Searches.{Searched, next, none-found, found}
 use Rattle.model.proofs.TaskLists.Masks.{lists-of}
@@ -15,16 +15,17 @@ abbrev μ-loop : tie.MeasureT-loop
 
 bad-rule-requires : tie.Need-bad-rule-requires Inv-loop μ-loop
 bad-rule-requires c κs =
-    let p = c .before .before .before .before .pre in
-    let e = tasks-are (p .0) in
-    (p .0, rw (← rules-are (p .0)) (c .loop-test .taken), c .before .before .lists .ensures ∙ ap listsOf e ∙ lists-of _ (p .1))
+    let l = c .before .before in
+    let p = l .before .before .before .pre in
+    let few = l .before .watchable .ensures ∙ ap (λ (n : ℕ). min n 16) (tasks-are p) in
+    (p, rw (← rules-are p) (c .loop-test .taken), l .lists .ensures ∙ ap listsOf few ∙ lists-of _ (omega arith))
 
 -- a bad access rule is found
 returns : tie.Need-returns Inv-loop μ-loop
 unfolding someBadRule
 returns c =
     let t = c .before .before in
-    found _ (t .loop-test .taken) (rules-are (t .before .before .before .before .pre .0)) (c .before .bad-rule .ensures) (c .if1 .taken)
+    found _ (t .loop-test .taken) (rules-are (t .before .before .before .before .before .pre)) (c .before .bad-rule .ensures) (c .if1 .taken)
 
 -- one rule more is not bad
 loop-again : tie.Need-loop-again Inv-loop μ-loop
@@ -33,8 +34,8 @@ loop-again c = let t = c .before .before in next (t .before .loop .inv) (t .loop
 -- none is bad
 returns-2 : tie.Need-returns-2 Inv-loop μ-loop
 unfolding someBadRule
-returns-2 c = none-found (c .before .loop .inv) (c .loop-test .left) (rules-are (c .before .before .before .before .pre .0))
+returns-2 c = none-found (c .before .loop .inv) (c .loop-test .left) (rules-are (c .before .before .before .before .before .pre))
 
 pub some-bad-rule-spec : {M : Type 1} → statement M
-some-bad-rule-spec = tie.close (tie.spec Inv-loop μ-loop (λ c κs. search needs) (λ c. search needs) bad-rule-requires returns
+some-bad-rule-spec = tie.close (tie.spec Inv-loop μ-loop (λ c κs. search needs) (λ c κs. search needs) (λ c. search needs) bad-rule-requires returns
     (λ c. search needs) (λ c. search needs) loop-again returns-2)

@@ -1,10 +1,9 @@
--- Each test that did not apply is one of the definition's chain, and the first that applies is its answer. Twelve tasks at most, which 14
--- and 17 ask for, is what 12 has tested; 17 is decided by striking off because 14 has tested the pairs. Assumes nothing.
+-- Each test that did not apply is one of the definition's chain, and the first that applies is its answer. Twelve tasks at most, which 15
+-- to 17 ask for, is what 12 has tested; 17 is decided by striking off because 14 has tested the pairs. Assumes nothing.
 use Rattle.model.proofs.Basics.{_≡_, refl, sym, ap₂, _∙_, false, List, ℕ, _≤_, arith}
-use Rattle.model.specs.{maxListed, noOrder, layoutOf, decode, outOfRange, someLacksDoor, tooLight, sheetTests, readSheet}
+use Rattle.model.specs.{maxTasks, noOrder, layoutOf, decode, outOfRange, someLacksDoor, tooLight, sheetTests, readSheet}
 use Rattle.model.specs.{InRange}
 use Rattle.model.proofs.Theory.NoOrder.{something-left}
-use Rattle.model.proofs.Bytes.Entries.{tasks-listed}
 use Rattle.model.proofs.Bytes.Ranges.{in-range}
 use Rattle.view.specs.Views.{Viewed}
 use Rattle.view.proofs.Counted.{tasks-are, points-are}
@@ -21,8 +20,8 @@ bytes c = c .before .args .s .now
 view : (c : tie.After-shared-slice-known) → Viewed (bytes c) (c .before .args .v)
 view c = viewed (c .before .pre .0) (c .before .pre .1)
 
-few : (c : tie.After-shared-slice-known) → decode (bytes c) .tasks ≤ maxListed
-few c = tasks-listed _ (counts (c .before .pre .0) .tasks)
+few : (c : tie.After-shared-slice-known) → decode (bytes c) .tasks ≤ maxTasks
+few c = counts (c .before .pre .0) .tasks
 
 ranges : (c : tie.Else1) → outOfRange (layoutOf (bytes (c .before .before))) (decode (bytes (c .before .before))) ≡ false
 ranges c = sym (c .before .out-of-range .ensures) ∙ c .if1 .left
@@ -47,7 +46,7 @@ light c = sym (c .before .before .too-light .ensures) ∙ c .if3 .left
 order : (c : tie.After-something-left) → noOrder (decode (bytes2 (c .before .before))) ≡ c .something-left .result
 order c =
     let e = left2 (c .before .before) in
-    something-left (decode (bytes (e .before .before))) (inside e) (few (e .before .before)) ∙ sym (c .something-left .ensures)
+    something-left (decode (bytes (e .before .before))) (inside e) (omega (arith, few (e .before .before))) ∙ sym (c .something-left .ensures)
 
 -- ---- what the tests that remain answer
 
@@ -69,7 +68,7 @@ remaining7 c = remaining6 (c .before) ∙ rw (light c)
 -- ---- the answers
 
 out-of-range-requires : tie.Need-out-of-range-requires
-out-of-range-requires c κs = (view c, few c)
+out-of-range-requires c κs = view c
 
 -- 14 applies
 returns : tie.Need-returns

@@ -1,19 +1,18 @@
--- A test over the whole table says that each number is the power of its place. Assumes nothing.
-use Rattle.model.proofs.Basics.{suc, _<_, arith, lt-leb, needs}
-use Rattle.model.specs.{maxListed, listsOf}
-use Rattle.tasklist.proofs.Table.{values}
+-- Below the width the power is one bit, and from it on there is no number. Assumes nothing.
+use Rattle.model.proofs.Basics.{arith, needs}
+use Rattle.model.specs.{maskBits}
+use Rattle.model.proofs.TaskLists.Masks.{lists-of, no-lists}
+use Rattle.tasklist.proofs.Shifts.{one-bit}
 use Rattle.tasklist.proofs.lists.Statement.{statement}
 use Rattle.tasklist.proofs.lists.Tie as tie
 
--- `rw` takes the table from the code, and the test over it computes to true
+-- the mask has room for the number
 returns : tie.Need-returns
-unfolding listsOf
-returns c = let l : c .before .args .n < suc maxListed = omega arith in rw (values listsOf)
+returns c = let n = c .before .args .n in omega (arith, one-bit maskBits n (omega arith), lists-of n (omega arith))
 
--- more tasks than the table serves
+-- it has none
 returns-2 : tie.Need-returns-2
-unfolding listsOf
-returns-2 c = rw (lt-leb (c .before .args .n) maxListed (omega arith))
+returns-2 c = omega (arith, no-lists (c .before .args .n) (omega arith))
 
 pub lists-spec : {M : Type 1} → statement M
-lists-spec = tie.close (tie.spec (λ c. search needs) (λ c. search needs) returns returns-2)
+lists-spec = tie.close (tie.spec (λ c. search needs) returns returns-2)

@@ -1,7 +1,7 @@
 -- One test over the table. Assumes nothing.
 use Rattle.model.proofs.Basics.{_<_, needs}
 use Rattle.model.specs.{bodies, kind1, layoutOf, fieldWidth, bytesBefore, entryBytes}
-use Rattle.tasklist.proofs.Table.{values}
+use Rattle.model.proofs.Tools.Tables.{values}
 use Rattle.sheet.proofs.layout.entry_bytes.Statement.{statement}
 use Rattle.sheet.proofs.layout.entry_bytes.Tie as tie
 
