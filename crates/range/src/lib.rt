@@ -1,9 +1,10 @@
 // Fault 14: tasks, points, doors, least counts and watched tasks within their ranges.
 ghost use mathlib.Core.Path.{_≡_};
-ghost use Prim.Native.Nat.{_^_, _<_, min};
+ghost use Prim.Native.Nat.{_<_, min};
 ghost use Rattle.model.specs.SheetLayout.{layoutOf, decode};
-ghost use Rattle.model.specs.Faults.{badDoor, badStart, badPair, badRule, someBadDoor, someBadStart, someBadPair, someBadRule, outOfRange};
+ghost use Rattle.model.specs.Faults.{badDoor, badStart, badPair, someBadDoor, someBadStart, someBadPair, someBadRule, outOfRange};
 ghost use Rattle.view.specs.Views.{Viewed};
+ghost use Rattle.range.specs.Rules.{badDoorOrCount};
 use view::View;
 
 const MAX_LEAST_COUNT: u16 = 12;
@@ -37,14 +38,14 @@ fn bad_pair(s: &[u8], v: View, i: u16) -> bool
     tasks <= view::sender(s, v, i) || tasks <= view::receiver(s, v, i)
 }
 
-// Of a sheet whose tasks, as far as they can be watched, have so many lists.
-fn bad_rule(s: &[u8], v: View, lists: u32, i: u16) -> bool
-    requires { ⌜ Viewed (now s) v × (i < decode (now s) .rules) × (lists ≡ 2 ^ min (decode (now s) .tasks) 16) ⌝ }
-    ensures { λ r. ⌜ r ≡ badRule (layoutOf (now (s .entry))) (decode (now (s .entry))) i ⌝ }
+// Its watched tasks are tested with those of all rules.
+fn bad_door_or_count(s: &[u8], v: View, i: u16) -> bool
+    requires { ⌜ Viewed (now s) v × (i < decode (now s) .rules) ⌝ }
+    ensures { λ r. ⌜ r ≡ badDoorOrCount (layoutOf (now (s .entry))) (decode (now (s .entry))) i ⌝ }
 {
     let least = view::least_count(s, v, i);
     let bad_count = least < 1 || MAX_LEAST_COUNT < least;
-    v.doors <= view::rule_door(s, v, i) || lists <= view::watched(s, v, i) as u32 || bad_count
+    v.doors <= view::rule_door(s, v, i) || bad_count
 }
 
 fn some_bad_door(s: &[u8], v: View) -> bool
@@ -96,24 +97,29 @@ fn some_bad_pair(s: &[u8], v: View) -> bool
 fn watchable(tasks: u16) -> u16
     ensures { λ r. ⌜ r ≡ min tasks 16 ⌝ }
 {
-    if tasks < WATCHED_BITS { tasks } else { WATCHED_BITS }
+    if tasks < WATCHED_BITS {
+        tasks
+    } else {
+        WATCHED_BITS
+    }
 }
 
-// The number of lists is that of the tasks that can be watched, which a mask has room for whatever the number of tasks is.
+// Watched tasks are joined over all rules, and held against the number of lists of as many tasks as can be watched, which a mask has room for.
 fn some_bad_rule(s: &[u8], v: View) -> bool
     requires { ⌜ Viewed (now s) v ⌝ }
     ensures { λ r. ⌜ r ≡ someBadRule (layoutOf (now (s .entry))) (decode (now (s .entry))) ⌝ }
 {
     let rules = v.rules;
-    let lists = tasklist::lists(watchable(v.tasks));
+    let mut watched: u16 = 0;
     let mut i: u16 = 0;
     while i < rules {
-        if bad_rule(s, v, lists, i) {
+        if bad_door_or_count(s, v, i) {
             return true;
         }
+        watched = watched | view::watched(s, v, i);
         i = i + 1;
     }
-    false
+    tasklist::lists(watchable(v.tasks)) <= watched as u32
 }
 
 pub fn out_of_range(s: &[u8], v: View) -> bool

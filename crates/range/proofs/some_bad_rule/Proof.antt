@@ -1,41 +1,51 @@
--- A search through the rules: none so far is bad. Assumes nothing.
+-- A search through the rules: none so far has its door or least count out of range, and what they watch is joined. Assumes nothing.
 use Rattle.model.proofs.Basics.{ap, _∙_, ℕ, _-_, min, arith, needs}
-use Rattle.model.specs.{layoutOf, decode, listsOf, badRule, someBadRule}
-use Rattle.model.proofs.Tools.Searches.{Searched, next, none-found, found}
+use Rattle.model.specs.{layoutOf, decode, listsOf}
 use Rattle.model.proofs.TaskLists.Masks.{lists-of}
 use Rattle.view.proofs.Counted.{tasks-are, rules-are}
+use Rattle.range.proofs.Rules.{Passed, none-passed, one-more, all-looked-at, one-bad}
 use Rattle.range.proofs.some_bad_rule.Statement.{statement}
 use Rattle.range.proofs.some_bad_rule.Tie as tie
 
 abbrev Inv-loop : tie.InvT-loop
-Inv-loop s v rules lists i₀ i = Searched rules (badRule (layoutOf s) (decode s)) i
+Inv-loop s v rules watched₀ i₀ watched i = Passed (layoutOf s) (decode s) rules watched i
 
 abbrev μ-loop : tie.MeasureT-loop
-μ-loop s v rules lists i₀ i = rules - i
+μ-loop s v rules watched₀ i₀ watched i = rules - i
 
-bad-rule-requires : tie.Need-bad-rule-requires Inv-loop μ-loop
-bad-rule-requires c κs =
-    let l = c .before .before in
-    let p = l .before .before .before .pre in
-    let few = l .before .watchable .ensures ∙ ap (λ (n : ℕ). min n 16) (tasks-are p) in
-    (p, rw (← rules-are p) (c .loop-test .taken), l .lists .ensures ∙ ap listsOf few ∙ lists-of _ (omega arith))
+loop-holds : tie.Need-loop-holds Inv-loop μ-loop
+loop-holds c = none-passed _ _
 
--- a bad access rule is found
+bad-door-or-count-requires : tie.Need-bad-door-or-count-requires Inv-loop μ-loop
+bad-door-or-count-requires c κs = let p = c .before .before .before .pre in (p, rw (← rules-are p) (c .loop-test .taken))
+
+-- a rule's door or least count is out of range
 returns : tie.Need-returns Inv-loop μ-loop
-unfolding someBadRule
 returns c =
     let t = c .before .before in
-    found _ (t .loop-test .taken) (rules-are (t .before .before .before .before .before .pre)) (c .before .bad-rule .ensures) (c .if1 .taken)
+    one-bad _ _ (t .loop-test .taken) (rules-are (t .before .before .before .pre)) (c .before .bad-door-or-count .ensures) (c .if1 .taken)
 
--- one rule more is not bad
+watched-requires : tie.Need-watched-requires Inv-loop μ-loop
+watched-requires c κs = let t = c .before .before in let p = t .before .before .before .pre in (p, rw (← rules-are p) (t .loop-test .taken))
+
+-- one rule more, and what it watches
 loop-again : tie.Need-loop-again Inv-loop μ-loop
-loop-again c = let t = c .before .before in next (t .before .loop .inv) (t .loop-test .taken) (c .before .bad-rule .ensures) (c .if1 .left)
+loop-again c =
+    let e = c .before in
+    let t = e .before .before in
+    one-more _ _ (t .before .loop .inv) (t .loop-test .taken) (e .before .bad-door-or-count .ensures) (e .if1 .left) (c .watched .ensures) (omega arith)
 
--- none is bad
+cast-result : tie.Need-cast-result Inv-loop μ-loop
+cast-result c = let n = c .before .before .before .loop .inv .narrow in search needs
+
+-- what they watch together decides
 returns-2 : tie.Need-returns-2 Inv-loop μ-loop
-unfolding someBadRule
-returns-2 c = none-found (c .before .loop .inv) (c .loop-test .left) (rules-are (c .before .before .before .before .before .pre))
+returns-2 c =
+    let l = c .before .before in
+    let p = l .before .before .before .pre in
+    let few = c .before .watchable .ensures ∙ ap (λ (n : ℕ). min n 16) (tasks-are p) in
+    all-looked-at _ _ (l .before .loop .inv) (l .loop-test .left) (rules-are p) (c .lists .ensures ∙ ap listsOf few ∙ lists-of _ (omega arith))
 
 pub some-bad-rule-spec : {M : Type 1} → statement M
-some-bad-rule-spec = tie.close (tie.spec Inv-loop μ-loop (λ c κs. search needs) (λ c κs. search needs) (λ c. search needs) bad-rule-requires returns
-    (λ c. search needs) (λ c. search needs) loop-again returns-2)
+some-bad-rule-spec = tie.close (tie.spec Inv-loop μ-loop loop-holds bad-door-or-count-requires returns watched-requires (λ c. search needs)
+    (λ c. search needs) loop-again (λ c κs. search needs) (λ c κs. search needs) cast-result returns-2)
