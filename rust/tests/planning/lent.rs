@@ -2,9 +2,11 @@
 
 use super::calls::{expect, Room};
 use super::sheets::due;
-use crate::common::examples::sheet_a;
+use crate::common::examples::{plain, sheet_a, Entries, MIDDLE};
+use crate::common::finishing::recurse;
 use crate::common::interface;
 use crate::common::lent::lend_long;
+use crate::common::plan::plan_len;
 use crate::common::rng::Rng;
 use crate::common::rounds::Due;
 
@@ -78,6 +80,30 @@ fn every_size() {
         for _ in 0..300 {
             let room = Room::noise(&mut rng, cells, plan);
             expect(number, &sheet, Ok(&due), &room, format_args!("sheet A"));
+        }
+    }
+}
+
+/// The lists of 1 to 12 tasks, in document 01's own numbers.
+const LISTS: [usize; 12] = [2, 4, 8, 16, 32, 64, 128, 256, 512, 1_024, 2_048, 4_096];
+
+/// For each number of tasks, three points: as many cells as lists times points are enough, and one fewer is not.
+#[test]
+fn just_enough_cells_and_one_too_few() {
+    for (tasks, lists) in (1..).zip(LISTS) {
+        let sheet = plain(Entries {
+            tasks,
+            doors: 2 * tasks,
+            pairs: 0,
+            ..MIDDLE
+        });
+        let due = recurse(&sheet);
+        let bytes = sheet.encode();
+        let mut rng = Rng::new(tasks as u64);
+        for (number, cells) in [(0, 3 * lists), (20, 3 * lists - 1), (0, 3 * lists + 1)] {
+            let room = Room::noise(&mut rng, cells, plan_len(tasks));
+            let case = format_args!("{tasks} tasks");
+            expect(number, &bytes, Ok(&due), &room, case);
         }
     }
 }
