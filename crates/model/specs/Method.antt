@@ -25,7 +25,7 @@ withIn w K j = cond (ltb j w) (with K j) K
 unfoldable pub listsOf : ℕ → ℕ
 listsOf n = cond (ltb n maskBits) (2 ^ n) 0
 
--- the full list of n tasks, and there the empty one (02, Req 02)
+-- the full list of n tasks, and from there on the empty one (02, Req 02)
 unfoldable pub fullOf : ℕ → ℕ
 fullOf n = cond (ltb n maskBits) (full n) 0
 

@@ -8,7 +8,7 @@ pub entries-within : (L : Layout) (b : List ℕ) → someWrongEntries L b ≡ fa
 unfolding someWrongEntries wrongEntries
 entries-within L b h i l = between-true _ _ (entries b i) (not-false _ (none-at bodies (wrongEntries L b) h i l))
 
--- as many tasks as the sheet may have are tasks that a mask has room for the number of lists of
+-- a mask has room for the number of lists of as many tasks as the sheet may have
 pub tasks-listed : (n : ℕ) → n ≤ maxTasks → n < maskBits
 tasks-listed n h = omega arith
 
