@@ -73,8 +73,8 @@ threeDoors d₁ d₂ d₃ =
 
 -- ---- the checks
 
--- the code's masks have 32 bits; the number of lists and the full list of 0 to 12 tasks, of 13 and 31, and of 32, where a mask has no room for the number; lists that
--- meet below a width; what a task waits for
+-- the code's masks have 32 bits; the number of lists and the full list of 0 to 12 tasks, of 13 and 31, and of 32, where a mask has no room for the number;
+-- lists that meet below a width; what a task waits for
 unfoldable pub checkMethod : Bool
 checkMethod =
     eqb (withIn maskBits 5 31) 2147483653

@@ -31,7 +31,7 @@ pub fn plan(s: &[u8], cells: &mut [u64], buf: &mut [u8]) -> Planning
     }
 }
 
-// How many cells a sheet needs, of fewer tasks than a mask has bits.
+// How many cells a sheet needs that has fewer tasks than a mask has bits.
 fn cells_needed(s: &[u8], v: View) -> usize
     requires { ⌜ Viewed (now s) v × (decode (now s) .tasks < maskBits) ⌝ }
     ensures { λ r. ⌜ r ≡ cellsNeeded (decode (now (s .entry))) ⌝ }

@@ -1,10 +1,10 @@
 -- A search through the access rules for a door or a least count out of range, which joins the watched tasks that it passes. Assumes nothing.
-use Rattle.model.proofs.Basics.{_≡_, refl, sym, ap, _∙_, Bool, true, false, _||_, ℕ, _+_, _^_, _≤_, _<_, min, add-one, lit<, arith, leb, ltb, pow-mono}
+use Rattle.model.proofs.Basics.{_≡_, refl, sym, _∙_, Bool, true, false, _||_, ℕ, _+_, _^_, _≤_, _<_, min, add-one, lit<, arith, leb, ltb, pow-mono}
 use Rattle.model.proofs.Basics.{pow-pos, le-leb, lt-leb, leb-true, leb-false, ltb-true, ltb-false}
 use mathlib.Core.Bool.{or-true, or-false}
 use Rattle.model.specs.{anyBelow, Layout, badRule, someBadRule}
 use Rattle.model.specs.Sheet.{Sheet}
-use Rattle.model.proofs.Tools.Tests.{by-test, or-left, or-right, any-cong, any-true, none-at}
+use Rattle.model.proofs.Tools.Tests.{by-test, any-cong, any-true, none-at}
 use Rattle.model.proofs.Tools.Searches.{Searched, none-tried, next, none-found}
 use lib.Bits.{bitOr, or-add-and, or-lt, and-le-l, and-le-r}
 use Rattle.range.specs.Rules.{badDoorOrCount, watchesBeyond}
@@ -53,7 +53,7 @@ module _ (L : Layout) (S : Sheet) where
       watched = joined (S .tasks) w x ∙ rw (add-one, p .watched, e);
     }
 
-    -- all are looked at, and n is the number of lists of as many tasks as can be watched
+    -- all are looked at, and `lists` is the number of lists of as many tasks as can be watched
     pub all-looked-at : {lists : ℕ} → m ≤ i → m ≡ S .rules → lists ≡ 2 ^ min (S .tasks) 16 → leb lists w ≡ someBadRule L S
     unfolding someBadRule
     all-looked-at l e h =

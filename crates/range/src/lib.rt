@@ -38,7 +38,7 @@ fn bad_pair(s: &[u8], v: View, i: u16) -> bool
     tasks <= view::sender(s, v, i) || tasks <= view::receiver(s, v, i)
 }
 
-// Its watched tasks are tested with those of all rules.
+// Door and least count of a rule. What it watches is tested together with what the others do.
 fn bad_door_or_count(s: &[u8], v: View, i: u16) -> bool
     requires { ⌜ Viewed (now s) v × (i < decode (now s) .rules) ⌝ }
     ensures { λ r. ⌜ r ≡ badDoorOrCount (layoutOf (now (s .entry))) (decode (now (s .entry))) i ⌝ }

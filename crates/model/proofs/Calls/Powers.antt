@@ -1,6 +1,6 @@
 -- Powers by rule (02, Req 02): for every number of tasks that a sheet or a plan can have, the number of lists and the full list are what the table of
 -- thirteen powers gave. Assumes nothing.
-use Rattle.model.proofs.Basics.{_≡_, refl, sym, ap, _∙_, false, List, [], _∷_, ℕ, _-_, _≤_, _<_, arith, getD}
+use Rattle.model.proofs.Basics.{_≡_, refl, sym, ap, _∙_, false, List, [], _∷_, ℕ, _-_, _≤_, arith, getD}
 use Rattle.model.specs.{listsOf, fullOf, layoutOf, decode, someWrongEntries, wrongTasks}
 use Rattle.model.proofs.Tools.Tables.{values}
 use Rattle.model.proofs.TaskLists.Masks.{full-lists}
