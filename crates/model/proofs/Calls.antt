@@ -1,4 +1,4 @@
--- The calls: what reading, validating, planning and printing answer, the three demands, and each number exactly where document 01 says so.
+-- The calls: what reading, validating, planning and printing answer, the three demands, each number exactly where document 01 says so, and powers by rule.
 pub mod Reading
 pub mod Passing
 pub mod Validating

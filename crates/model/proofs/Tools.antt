@@ -1,4 +1,4 @@
--- Tools: tests that compute, folds, lists, loops that search, sum or choose, and calls that refuse. They say nothing of sheets.
+-- Tools: tests that compute, tables, folds, lists, loops that search, sum or choose, and calls that refuse. They say nothing of sheets.
 pub mod Tests
 pub mod Tables
 pub mod Folds

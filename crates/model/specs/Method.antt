@@ -21,11 +21,11 @@ maskBits = 32
 unfoldable pub withIn : ℕ → ℕ → ℕ → ℕ
 withIn w K j = cond (ltb j w) (with K j) K
 
--- the number of lists of n tasks where a mask has room for that number, and 0 from 32 tasks on (02, Req 02)
+-- the number of lists of n tasks (02, Req 02) where a mask has room for that number, and 0 from 32 tasks on
 unfoldable pub listsOf : ℕ → ℕ
 listsOf n = cond (ltb n maskBits) (2 ^ n) 0
 
--- the full list of n tasks, and from there on the empty one (02, Req 02)
+-- the full list of n tasks (02, Req 02), and from there on the empty one
 unfoldable pub fullOf : ℕ → ℕ
 fullOf n = cond (ltb n maskBits) (full n) 0
 

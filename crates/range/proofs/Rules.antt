@@ -7,13 +7,13 @@ use Rattle.model.specs.Sheet.{Sheet}
 use Rattle.model.proofs.Tools.Tests.{by-test, any-cong, any-true, none-at}
 use Rattle.model.proofs.Tools.Searches.{Searched, none-tried, next, none-found}
 use lib.Bits.{bitOr, or-add-and, or-lt, and-le-l, and-le-r}
-use Rattle.range.specs.Rules.{badDoorOrCount, watchesBeyond}
+use Rattle.range.specs.Rules.{watchedBits, badDoorOrCount, watchesBeyond}
 
--- a number of 16 bits has no bit from 16 on
-pub no-further : (n w : ℕ) → w < 2 ^ 16 → leb (2 ^ min n 16) w ≡ leb (2 ^ n) w
-no-further n w l = by-test (ltb n 16)
-    (λ t. let h = ltb-true n 16 t in let m : min n 16 ≡ n = omega arith in rw m)
-    (λ t. let h = ltb-false n 16 t in let m : min n 16 ≡ 16 = omega arith in rw (m, lt-leb (2 ^ 16) w l, lt-leb (2 ^ n) w (omega (arith, pow-mono h))))
+-- a number of k bits has no bit from k on
+pub no-further : (k n w : ℕ) → w < 2 ^ k → leb (2 ^ min n k) w ≡ leb (2 ^ n) w
+no-further k n w l = by-test (ltb n k)
+    (λ t. let h = ltb-true n k t in let m : min n k ≡ n = omega arith in rw m)
+    (λ t. let h = ltb-false n k t in let m : min n k ≡ k = omega arith in rw (m, lt-leb (2 ^ k) w l, lt-leb (2 ^ n) w (omega (arith, pow-mono h))))
 
 -- two numbers joined have a bit at n or above exactly if one of them has
 joined : (n a b : ℕ) → leb (2 ^ n) (bitOr a b) ≡ (leb (2 ^ n) a || leb (2 ^ n) b)
@@ -37,7 +37,7 @@ module _ (L : Layout) (S : Sheet) where
   -- of the m rules those below i are looked at: door and least count of each are in range, and w is what they watch together
   pub record Passed (m w i : ℕ) : Type 0 where
     pub searched : Searched m (badDoorOrCount L S) i
-    pub narrow : w < 2 ^ 16
+    pub narrow : w < 2 ^ watchedBits
     pub watched : leb (2 ^ S .tasks) w ≡ anyBelow i (watchesBeyond S)
 
   pub none-passed : {m : ℕ} → Passed m 0 0
@@ -45,21 +45,21 @@ module _ (L : Layout) (S : Sheet) where
 
   module _ {m w i : ℕ} (p : Passed m w i) where
     -- r and x are what the code finds of rule i
-    pub one-more : {r : Bool} {x : ℕ} → i < m → r ≡ badDoorOrCount L S i → r ≡ false → x ≡ S .watched i → x < 2 ^ 16 → Passed m (bitOr w x) (i + 1)
+    pub one-more : {r : Bool} {x : ℕ} → i < m → r ≡ badDoorOrCount L S i → r ≡ false → x ≡ S .watched i → x < 2 ^ watchedBits → Passed m (bitOr w x) (i + 1)
     unfolding watchesBeyond
     one-more {r} {x} l h t e b = record {
       searched = next (p .searched) l h t;
-      narrow = or-lt 16 w x (p .narrow) b;
+      narrow = or-lt watchedBits w x (p .narrow) b;
       watched = joined (S .tasks) w x ∙ rw (add-one, p .watched, e);
     }
 
     -- all are looked at, and `lists` is the number of lists of as many tasks as can be watched
-    pub all-looked-at : {lists : ℕ} → m ≤ i → m ≡ S .rules → lists ≡ 2 ^ min (S .tasks) 16 → leb lists w ≡ someBadRule L S
+    pub all-looked-at : {lists : ℕ} → m ≤ i → m ≡ S .rules → lists ≡ 2 ^ min (S .tasks) watchedBits → leb lists w ≡ someBadRule L S
     unfolding someBadRule
     all-looked-at l e h =
         let whole : S .rules ≡ i = omega (arith, p .searched .opposite .within) in
         let none = sym (none-found (p .searched) l e) in
-        rw (h, no-further (S .tasks) w (p .narrow), p .watched, ← whole)
+        rw (h, no-further watchedBits (S .tasks) w (p .narrow), p .watched, ← whole)
         (sym (any-cong (S .rules) _ _ (λ j k. rw (bad-rule-is j, none-at (S .rules) _ none j k))))
 
   -- a rule whose door or least count is out of range is bad

@@ -7,6 +7,10 @@ use Rattle.model.specs.Folds.{isBetween}
 use Rattle.model.specs.Sheet.{Sheet}
 use Rattle.model.specs.SheetLayout.{Layout}
 
+-- the bits of a rule's watched tasks: how many tasks it can watch
+abbrev pub watchedBits : ℕ
+watchedBits = 16
+
 -- rule i has its door or its least count out of range
 unfoldable pub badDoorOrCount : Layout → Sheet → ℕ → Bool
 badDoorOrCount L S i = leb (S .doors) (S .ruleDoor i) || not (isBetween 1 (L .maxLeastCount) (S .leastCount i))

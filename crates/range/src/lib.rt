@@ -4,12 +4,12 @@ ghost use Prim.Native.Nat.{_<_, min};
 ghost use Rattle.model.specs.SheetLayout.{layoutOf, decode};
 ghost use Rattle.model.specs.Faults.{badDoor, badStart, badPair, someBadDoor, someBadStart, someBadPair, someBadRule, outOfRange};
 ghost use Rattle.view.specs.Views.{Viewed};
-ghost use Rattle.range.specs.Rules.{badDoorOrCount};
+ghost use Rattle.range.specs.Rules.{watchedBits, badDoorOrCount};
 use view::View;
 
 const MAX_LEAST_COUNT: u16 = 12;
 
-// The tasks that a sheet can say are watched: the bits of that number.
+// How many tasks a rule can watch: the bits of its watched tasks.
 const WATCHED_BITS: u16 = 16;
 
 fn bad_door(s: &[u8], v: View, d: u16) -> bool
@@ -38,7 +38,7 @@ fn bad_pair(s: &[u8], v: View, i: u16) -> bool
     tasks <= view::sender(s, v, i) || tasks <= view::receiver(s, v, i)
 }
 
-// Door and least count of a rule. What it watches is tested together with what the others do.
+// Door and least count of a rule. What it watches is tested with what the other rules watch, in `some_bad_rule`.
 fn bad_door_or_count(s: &[u8], v: View, i: u16) -> bool
     requires { ⌜ Viewed (now s) v × (i < decode (now s) .rules) ⌝ }
     ensures { λ r. ⌜ r ≡ badDoorOrCount (layoutOf (now (s .entry))) (decode (now (s .entry))) i ⌝ }
@@ -95,7 +95,7 @@ fn some_bad_pair(s: &[u8], v: View) -> bool
 
 // How many of so many tasks can be watched.
 fn watchable(tasks: u16) -> u16
-    ensures { λ r. ⌜ r ≡ min tasks 16 ⌝ }
+    ensures { λ r. ⌜ r ≡ min tasks watchedBits ⌝ }
 {
     if tasks < WATCHED_BITS {
         tasks

@@ -3,6 +3,7 @@ use Rattle.model.proofs.Basics.{ap, _∙_, ℕ, _-_, min, arith, needs}
 use Rattle.model.specs.{layoutOf, decode, listsOf}
 use Rattle.model.proofs.TaskLists.Masks.{lists-of}
 use Rattle.view.proofs.Counted.{tasks-are, rules-are}
+use Rattle.range.specs.Rules.{watchedBits}
 use Rattle.range.proofs.Rules.{Passed, none-passed, one-more, all-looked-at, one-bad}
 use Rattle.range.proofs.some_bad_rule.Statement.{statement}
 use Rattle.range.proofs.some_bad_rule.Tie as tie
@@ -43,7 +44,7 @@ returns-2 : tie.Need-returns-2 Inv-loop μ-loop
 returns-2 c =
     let l = c .before .before in
     let p = l .before .before .before .pre in
-    let few = c .before .watchable .ensures ∙ ap (λ (n : ℕ). min n 16) (tasks-are p) in
+    let few = c .before .watchable .ensures ∙ ap (λ (n : ℕ). min n watchedBits) (tasks-are p) in
     all-looked-at _ _ (l .before .loop .inv) (l .loop-test .left) (rules-are p) (c .lists .ensures ∙ ap listsOf few ∙ lists-of _ (omega arith))
 
 pub some-bad-rule-spec : {M : Type 1} → statement M

@@ -1,5 +1,6 @@
--- Each test that did not apply is one of the definition's chain, and the first that applies is its answer. Twelve tasks at most, which 15
--- to 17 ask for, is what 12 has tested; 17 is decided by striking off because 14 has tested the pairs. Assumes nothing.
+-- Each test that did not apply is one of the definition's chain, and the first that applies is its answer. No more
+-- tasks than a mask has bits, which 15 and 16 ask for, or than an array has places, which 17 does, is what 12 has tested; 17 is decided by
+-- striking off because 14 has tested the pairs. Assumes nothing.
 use Rattle.model.proofs.Basics.{_≡_, refl, sym, ap₂, _∙_, false, List, ℕ, _≤_, arith}
 use Rattle.model.specs.{maxTasks, noOrder, layoutOf, decode, outOfRange, someLacksDoor, tooLight, sheetTests, readSheet}
 use Rattle.model.specs.{InRange}
