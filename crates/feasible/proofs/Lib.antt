@@ -1,4 +1,3 @@
 pub mod Served
-pub mod Lightest
 pub mod Waiting
 pub mod Striking

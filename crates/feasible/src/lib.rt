@@ -1,11 +1,11 @@
-// Whether a sheet can be served at all: faults 15 to 17, over the view of a sheet that 10 to 14 do not refuse.
+// Whether a sheet can be served at all: faults 15 and 17, over the view of a sheet that 10 to 14 do not refuse.
 ghost use mathlib.Core.Path.{_≡_};
 ghost use Prim.Native.Nat.{ℕ, _≤_, _<_};
 ghost use lib.ListN.{length};
 ghost use Rattle.model.specs.Folds.{mapBelow};
 ghost use Rattle.model.specs.SheetLayout.{maxTasks, decode};
 ghost use Rattle.model.specs.Method.{maskBits, sendersOf, somethingLeft};
-ghost use Rattle.model.specs.Faults.{someLacksDoor, tooLight};
+ghost use Rattle.model.specs.Faults.{someLacksDoor};
 ghost use Rattle.model.specs.Passing.{InRange};
 ghost use Rattle.view.specs.Views.{Viewed};
 ghost use Rattle.feasible.specs.Method.{strikeBy, passBy};
@@ -33,24 +33,6 @@ pub fn some_lacks_door(s: &[u8], v: View) -> bool
         t = t + 1;
     }
     t < tasks
-}
-
-// Fault 16: whether the end load and all negative changes add up to less than zero. 32 bits hold the sum of as many changes as a mask has bits.
-pub fn too_light(s: &[u8], v: View) -> bool
-    requires { ⌜ Viewed (now s) v × (decode (now s) .tasks ≤ maskBits) ⌝ }
-    ensures { λ r. ⌜ r ≡ tooLight (decode (now (s .entry))) ⌝ }
-{
-    let tasks = v.tasks;
-    let mut lightest = view::end_load(s, v) as i32;
-    let mut t: u16 = 0;
-    while t < tasks {
-        let change = view::change(s, v, t);
-        if change < 0 {
-            lightest = lightest + change as i32;
-        }
-        t = t + 1;
-    }
-    lightest < 0
 }
 
 // What each task waits for: the senders in the pairs whose receiver it is.

@@ -53,7 +53,7 @@ fn size_rows(s: &[u8], v: View, table: &Table, m: u16, below: &[u64], here: &mut
     let lists = tasklist::lists(v.tasks);
     let mut k = tasklist::full(m);
     while k < lists {
-        if table::essential(s, v, k) {
+        if essential::essential(s, v, k) {
             list_row(s, v, table, k, below, here);
         }
         k = rank::next(k);

@@ -7,17 +7,17 @@ use Rattle.model.specs.{isSolution, roundCost, planCost, plans, solution
 use Rattle.model.specs.{signed, bytesOf, overwrite, overwriteAt, writtenAt, accepted, kind1, fieldWidth, bytesBefore, entryBytes}
 use Rattle.model.specs.{lineAt, lineBody, lineOffset, entries, fieldAt, decodeBy, layoutOf, decode, tooShort, wrongKind, wrongEntries}
 use Rattle.model.specs.{someWrongEntries, wrongLine, wrongLength, wrongPlaces, badDoor, badStart, badPair, badRule, someBadDoor}
-use Rattle.model.specs.{someBadStart, someBadPair, someBadRule, outOfRange, lacksDoor, someLacksDoor, tooLight, sheetTests}
+use Rattle.model.specs.{someBadStart, someBadPair, someBadRule, outOfRange, lacksDoor, someLacksDoor, lightList, tooLight, sheetTests}
 use Rattle.model.specs.{unlessFault, readSheet, planStartAt, planDoorsAt, planCostAt, planLength, lineBytes, planHead, doorBytes}
 use Rattle.model.specs.{planBytes, wrongTasks, shortRoom, writeTests, writeAnswer, bytesWritten, writePlan, wrongHead, illFormed}
 use Rattle.model.specs.{startIn, doorIn, doorsIn, costIn, doorArray, readTests, readPlan, noDoors, withDoor, inHand, notInSheet}
 use Rattle.model.specs.{doneTwice, breaksPair, wrongCost, routeTests, planTests, validate, cellsNeeded, fewCells, roomTests, planFor}
 use Rattle.model.specs.{cellAfter, cellsAfter, plan, decimal, refusalLine, stepLine, planLines, printedWith, print, printed, withIn}
-use Rattle.model.specs.{listsOf, fullOf, meets, sendersOf}
-use Rattle.model.specs.Examples.{sheetA, checkStarred, checkFurther}
+use Rattle.model.specs.{listsOf, fullOf, meets, sendersOf, lightestTooLight, testsBefore, planBefore}
+use Rattle.model.specs.Examples.{sheetA, checkStarred, checkFurther, checkAboard}
 
-examples : T checkStarred × T checkFurther × T checkNeighbours × T checkMethod × (readSheet sheetA ≡ accepted (record { tasks = 2; points = 3 }))
-unfolding checkStarred checkFurther checkNeighbours checkMethod
+examples : T checkStarred × T checkFurther × T checkNeighbours × T checkMethod × T checkAboard × (readSheet sheetA ≡ accepted (record { tasks = 2; points = 3 }))
+unfolding checkStarred checkFurther checkNeighbours checkMethod checkAboard
     countBelow isBetween mapBelow bit with without full size watchedIn withIn listsOf fullOf meets sendersOf
     isOrder keepsPair keepsEveryPair pairWithin keepsPairsWithin isAdmissible isOrderWithin admissibleOrders noOrder essential pairsAllow
     load ruleCharge charges stepCost inSheet isSolution roundCost planCost plans solutions cheapest isCompletion completions costToGo
@@ -25,12 +25,12 @@ unfolding checkStarred checkFurther checkNeighbours checkMethod
     kind1 fieldWidth bytesBefore entryBytes lineAt lineBody lineOffset entries fieldAt decodeBy layoutOf decode
     tooShort wrongKind wrongEntries someWrongEntries wrongLine wrongLength wrongPlaces
     badDoor badStart badPair badRule someBadDoor someBadStart someBadPair someBadRule outOfRange
-    lacksDoor someLacksDoor tooLight sheetTests unlessFault readSheet
+    lacksDoor someLacksDoor lightList tooLight sheetTests unlessFault readSheet lightestTooLight testsBefore planBefore
     planStartAt planDoorsAt planCostAt planLength lineBytes planHead doorBytes planBytes wrongTasks shortRoom writeTests writeAnswer bytesWritten writePlan
     wrongHead illFormed startIn doorIn doorsIn costIn doorArray readTests readPlan noDoors withDoor inHand
     notInSheet doneTwice breaksPair wrongCost routeTests planTests validate cellsNeeded fewCells roomTests planFor cellAfter cellsAfter plan
     decimal refusalLine stepLine planLines printedWith print printed
-examples = (tt, tt, tt, tt, refl)
+examples = (tt, tt, tt, tt, tt, refl)
 
 -- the starred lines, all of them
 pub starred : T checkStarred
@@ -48,6 +48,10 @@ neighbours = examples .2
 pub method : T checkMethod
 method = examples .3
 
+-- a crate taken aboard in the round: A with end load 2, with and without pairs
+pub taken-aboard : T checkAboard
+taken-aboard = examples .4
+
 -- A reads, with two tasks and three points
 pub reads-A : readSheet sheetA ≡ accepted (record { tasks = 2; points = 3 })
-reads-A = examples .4
+reads-A = examples .5

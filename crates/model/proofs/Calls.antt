@@ -10,4 +10,5 @@ pub mod Interface
 pub mod Figures
 pub mod PlanFigures
 pub mod Powers
+pub mod Since
 pub mod Judged

@@ -26,7 +26,7 @@ unfoldable pub charges : Sheet → ℕ → ℕ → ℕ
 charges S K d = sumBelow (S .rules) (λ i. cond (eqb (S .ruleDoor i) d) (ruleCharge S K i) 0)
 
 -- one step, from point p through door d with K open: distance times load, work, charges (01, Cost of a round; 000, a term of (2.12)).
--- A load below zero is never costed: number 16 refuses the sheet
+-- A load below zero is never costed: where K is essential number 16 refuses the sheet, and no other list is open along a solution or a completion (`legs-hold`)
 unfoldable pub stepCost : Sheet → ℕ → ℕ → ℕ → ℕ
 stepCost S K p d = S .distance p (S .arrive d) * natAbs (load S K) + S .work d + charges S K d
 

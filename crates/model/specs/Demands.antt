@@ -1,15 +1,20 @@
 -- The three demands on the product, word for word and as three records over the definitions, and the same as the C interface shows them: by what a call returns
--- and by what it leaves in the places that it was lent. `demand-1` to `demand-3` and `demand-1-returned` to `demand-3-returned` prove them. Assumes nothing.
+-- and by what it leaves in the places that it was lent. `demand-1` to `demand-3` and `demand-1-returned` to `demand-3-returned` prove them. Demand 3 stands as 02,
+-- Req 03, restates it. Assumes nothing.
 -- An answer is `accepted` or `refused`. Every definition is a total function of any bytes and any numbers, so every call ends and leans on no check made by its caller.
 use mathlib.Core.Path.{_≡_}
 use mathlib.Core.Logic.{_⊎_, _↔_}
 use mathlib.Core.Bool.{true, false}
-use mathlib.Core.List.{List}
+use mathlib.Core.List.{List, map}
 use Prim.Native.Nat.{ℕ, _+_, _*_, _^_, _≤_, _<_}
+use lib.Dec.{T}
 use lib.ListN.{length, getD, take, drop}
 use lib.Pow.{areBytes}
+use lib.Signed.{nonNeg}
+use Rattle.model.specs.TaskList.{maskOf}
+use Rattle.model.specs.Sheet.{Sheet}
 use Rattle.model.specs.Orders.{isAdmissible, pairsAllow}
-use Rattle.model.specs.Cost.{cost}
+use Rattle.model.specs.Cost.{load, cost}
 use Rattle.model.specs.Plans.{isSolution, roundCost, isCompletion}
 use Rattle.model.specs.Answer.{refused, accepted, status, placedNumber}
 use Rattle.model.specs.SheetLayout.{decode}
@@ -17,7 +22,7 @@ use Rattle.model.specs.Faults.{Counts, readSheet, tasksLeft, pointsLeft}
 use Rattle.model.specs.PlanLayout.{maxPlanDoors, planBytes, writePlan, PlanRead, readPlan, startLeft, doorsLeft, costLeft}
 use Rattle.model.specs.Validating.{validate}
 use Rattle.model.specs.Planning.{plan}
-use Rattle.model.specs.Passing.{Passes, Light}
+use Rattle.model.specs.Passing.{Passes, LoadsHold, SomeTooLight}
 
 -- ---- Demand 1. "A task sheet, whole, torn or stray bytes, is read or refused with one of the numbers 10 to 17. Planning may also be refused with 20 or 21,
 -- judging with 30 to 34. Every call ends, leans on no check made by its caller, and on refusal changes no byte or cell it was lent."
@@ -26,13 +31,20 @@ use Rattle.model.specs.Passing.{Passes, Light}
 abbrev pub SheetNumber : ℕ → Type 0
 SheetNumber r = (10 ≤ r) × (r ≤ 17)
 
+-- some order of the tasks keeps every pair, and none does
+abbrev pub SomeOrder : Sheet → Type 0
+SomeOrder S = (ts : List ℕ) × (isAdmissible S ts ≡ true)
+
+abbrev pub NoOrder : Sheet → Type 0
+NoOrder S = (ts : List ℕ) → isAdmissible S ts ≡ true → ⊥
+
 pub record Demand1 : Type 0 where
   -- a sheet is refused with one of 10 to 17
   pub reading : (b : List ℕ) (r : ℕ) → readSheet b ≡ refused r → SheetNumber r
-  -- or it is read, with N and P: exactly if it is laid out as it should be, no load is below zero, and some order of the tasks keeps every pair
+  -- or it is read, with N and P: exactly if it is laid out as it should be, some order of the tasks keeps every pair, and no essential list has a load below zero
   pub reads-iff : (b : List ℕ)
       → (readSheet b ≡ accepted (record { tasks = decode b .tasks; points = decode b .points }))
-      ↔ (Passes b × Light (decode b) × ((ts : List ℕ) × (isAdmissible (decode b) ts ≡ true)))
+      ↔ (Passes b × SomeOrder (decode b) × LoadsHold (decode b))
   -- planning may also be refused with 20 or 21; on refusal no cell and no byte changes
   pub planning : (b cells buffer : List ℕ) (r : ℕ) → plan b cells buffer .answer ≡ refused r
       → (SheetNumber r ⊎ ((r ≡ 20) ⊎ (r ≡ 21))) × (plan b cells buffer .cells ≡ cells) × (plan b cells buffer .bytes ≡ buffer)
@@ -72,13 +84,15 @@ pub record Demand2 : Type 0 where
 -- solution of that sheet, from whichever start listed, costs at least as much, and one that costs the same has a higher start number, or the same start and, where
 -- the doors first differ, a higher door number. And unless planning refuses, the work area then shows, for every open list that the pairs allow, the empty one too,
 -- and for every point, the least cost of finishing from there; units will soon replan in mid-round from those figures."
+-- 02, Req 03: "From now on 16 is for a sheet where some essential list has a load below zero. It is therefore tested after 17. [..] Lists that are not essential may
+-- have a negative load, and no leg is ever costed with it. A sheet that passes 10 to 15 gets 17 exactly if no order keeps every pair; one that then passes the new 16 is
+-- planned as demand 3 asks, whether or not the old 16 refused it."
 
--- "for every sheet that passes 10 to 16, with room lent for work and plan": nothing is said of what stands in the cells or in the buffer
+-- "a sheet that passes 10 to 15", with room lent for work and plan: nothing is said of loads, nor of what stands in the cells or in the buffer
 pub record Lent (b cells buffer : List ℕ) : Type 0 where
   pub bytes : areBytes b ≡ true
-  -- 10 to 15, in plain facts (specs/Passing.antt), and 16: the end load plus all negative changes is not below zero
+  -- 10 to 15, in plain facts (specs/Passing.antt)
   pub passes : Passes b
-  pub light : Light (decode b)
   pub work-room : 2 ^ decode b .tasks * decode b .points ≤ length cells
   pub plan-room : 32 + 2 * decode b .tasks ≤ length buffer
 
@@ -121,17 +135,30 @@ pub record Cheapest (b cells buffer : List ℕ) : Type 0 where
 -- for all that are `Lent`: that is what `demand-3` asks
 pub record Demand3 (b cells buffer : List ℕ) : Type 0 where
   -- reading and planning refuse with 17 exactly when no order of the tasks keeps every pair
-  pub reading-refuses-iff : (readSheet b ≡ refused 17) ↔ ((ts : List ℕ) → isAdmissible (decode b) ts ≡ true → ⊥)
-  pub refuses-iff : (plan b cells buffer .answer ≡ refused 17) ↔ ((ts : List ℕ) → isAdmissible (decode b) ts ≡ true → ⊥)
-  -- and otherwise planning leaves the cheapest plan
-  pub otherwise : (plan b cells buffer .answer ≡ refused 17 → ⊥) → Cheapest b cells buffer
+  pub reading-refuses-17-iff : (readSheet b ≡ refused 17) ↔ NoOrder (decode b)
+  pub refuses-17-iff : (plan b cells buffer .answer ≡ refused 17) ↔ NoOrder (decode b)
+  -- and of the others with 16 exactly when some essential list has a load below zero
+  pub reading-refuses-16-iff : (readSheet b ≡ refused 16) ↔ (SomeOrder (decode b) × SomeTooLight (decode b))
+  pub refuses-16-iff : (plan b cells buffer .answer ≡ refused 16) ↔ (SomeOrder (decode b) × SomeTooLight (decode b))
+  -- one that passes 16 too is planned: planning leaves the cheapest plan, whatever the old 16 says of the sheet
+  pub planned : SomeOrder (decode b) → LoadsHold (decode b) → Cheapest b cells buffer
+  -- so it does wherever it refuses with neither
+  pub otherwise : (plan b cells buffer .answer ≡ refused 17 → ⊥) → (plan b cells buffer .answer ≡ refused 16 → ⊥) → Cheapest b cells buffer
+
+-- "no leg is ever costed with it": along a solution, and along a completion of a list that the pairs allow, the load of the open list at every leg, which is that of the
+-- doors still to come, is not below zero. `legs-hold` shows it for every sheet that reads
+pub record LegsHold (S : Sheet) : Type 0 where
+  pub of-solutions : (s : ℕ) (ds : List ℕ) → isSolution S s ds ≡ true → (i : ℕ) → i < length ds → T (nonNeg (load S (maskOf (map (S .task) (drop i ds)))))
+  pub of-completions : (K : ℕ) (ds : List ℕ) → K < 2 ^ S .tasks → pairsAllow S K ≡ true → isCompletion S K ds ≡ true
+      → (i : ℕ) → i < length ds → T (nonNeg (load S (maskOf (map (S .task) (drop i ds)))))
 
 -- ---- the demands by what is returned and left
 
 -- Demand 1. `left-alone` says that after a refusal every place holds what it held before
 pub record Demand1Returned : Type 0 where
-  -- reading returns 0 exactly for a sheet that is laid out as it should be, has no load below zero, and has an order of its tasks that keeps every pair; it then leaves N and P
-  pub reads-iff : (b : List ℕ) → (status (readSheet b) ≡ 0) ↔ (Passes b × Light (decode b) × ((ts : List ℕ) × (isAdmissible (decode b) ts ≡ true)))
+  -- reading returns 0 exactly for a sheet that is laid out as it should be, has an order of its tasks that keeps every pair, and no essential list with a load below zero; it
+  -- then leaves N and P
+  pub reads-iff : (b : List ℕ) → (status (readSheet b) ≡ 0) ↔ (Passes b × SomeOrder (decode b) × LoadsHold (decode b))
   pub counts-left : (b : List ℕ) (t p : ℕ) → status (readSheet b) ≡ 0
       → (tasksLeft b t ≡ decode b .tasks) × (pointsLeft b p ≡ decode b .points)
   -- planning returns 0 exactly if reading does and there is room for work and plan; for a sheet that reads it returns 20 exactly if there are fewer cells than needed,
@@ -180,7 +207,7 @@ pub record Demand2Returned : Type 0 where
 
 -- Demand 3. Planning returns `status` of its answer, and leaves `.cells` in the cells, `.bytes` in the buffer, and `placedNumber` of the cost in *cost
 
--- what planning returns and leaves where it does not return 17
+-- what planning returns and leaves where it returns neither 17 nor 16
 pub record CheapestReturned (b cells buffer : List ℕ) (before : ℕ) : Type 0 where
   -- 0 is returned
   pub returns : status (plan b cells buffer .answer) ≡ 0
@@ -195,10 +222,14 @@ pub record CheapestReturned (b cells buffer : List ℕ) (before : ℕ) : Type 0 
       × (take (decode b .tasks) (doorsLeft (decode b .tasks) (planLeft b cells buffer) doors) ≡ doorsOf b (leaves .written))
       × (costLeft (decode b .tasks) (length doors) (planLeft b cells buffer) c ≡ leaves .written .cost)
 
--- for a sheet that passes 10 to 16, with room lent (`Lent`), whatever stood in the cells, in the buffer and in *cost before
+-- for a sheet that passes 10 to 15, with room lent (`Lent`), whatever stood in the cells, in the buffer and in *cost before
 pub record Demand3Returned (b cells buffer : List ℕ) (before : ℕ) : Type 0 where
   -- reading and planning return 17 exactly when no order of the tasks keeps every pair
-  pub reading-refuses-iff : (status (readSheet b) ≡ 17) ↔ ((ts : List ℕ) → isAdmissible (decode b) ts ≡ true → ⊥)
-  pub refuses-iff : (status (plan b cells buffer .answer) ≡ 17) ↔ ((ts : List ℕ) → isAdmissible (decode b) ts ≡ true → ⊥)
+  pub reading-refuses-17-iff : (status (readSheet b) ≡ 17) ↔ NoOrder (decode b)
+  pub refuses-17-iff : (status (plan b cells buffer .answer) ≡ 17) ↔ NoOrder (decode b)
+  -- and of the others 16 exactly when some essential list has a load below zero
+  pub reading-refuses-16-iff : (status (readSheet b) ≡ 16) ↔ (SomeOrder (decode b) × SomeTooLight (decode b))
+  pub refuses-16-iff : (status (plan b cells buffer .answer) ≡ 16) ↔ (SomeOrder (decode b) × SomeTooLight (decode b))
   -- and otherwise planning returns 0 and leaves the cheapest plan
-  pub otherwise : (status (plan b cells buffer .answer) ≡ 17 → ⊥) → CheapestReturned b cells buffer before
+  pub planned : SomeOrder (decode b) → LoadsHold (decode b) → CheapestReturned b cells buffer before
+  pub otherwise : (status (plan b cells buffer .answer) ≡ 17 → ⊥) → (status (plan b cells buffer .answer) ≡ 16 → ⊥) → CheapestReturned b cells buffer before

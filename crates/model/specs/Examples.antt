@@ -1,5 +1,6 @@
--- Sheet A and its neighbours: the starred lines, by one computed check on the definitions (01, Sheet A and its neighbours, which every definition here is from but sheet B). Assumes nothing.
-use mathlib.Core.Bool.{Bool, false, _&&_}
+-- Sheet A and its neighbours: the starred lines, by one computed check on the definitions (01, Sheet A and its neighbours, which every definition here is from but sheet B, and A
+-- with end load 2 as 02, Req 03, has it). Assumes nothing.
+use mathlib.Core.Bool.{Bool, false, not, _&&_}
 use mathlib.Core.List.{List, [], _∷_, _++_}
 use Prim.Native.Nat.{ℕ, _+_, _*_, _/_, _%_}
 use lib.Dec.{eqb}
@@ -9,11 +10,12 @@ use Rattle.model.specs.Plans.{roundCost}
 use Rattle.model.specs.Bytes.{overwriteAt, writtenAt}
 use Rattle.model.specs.Answer.{Answer, refused, accepted, status, placed}
 use Rattle.model.specs.SheetLayout.{decode}
-use Rattle.model.specs.Faults.{Counts, readSheet}
+use Rattle.model.specs.Faults.{Counts, tooLight, readSheet}
 use Rattle.model.specs.PlanLayout.{writePlan, PlanRead, readPlan}
 use Rattle.model.specs.PlanInHand.{PlanInHand, noDoors, withDoors, inHand}
 use Rattle.model.specs.Validating.{validate}
 use Rattle.model.specs.Planning.{Planned, plan}
+use Rattle.model.specs.Lightest.{lightestTooLight, planBefore}
 use Rattle.model.specs.Printing.{ascii, Printed, print, printInput, printCells, printed}
 
 -- ---- the sheets
@@ -100,6 +102,10 @@ charged charge = likeA 10 0 [] 1 (ruleBytes 0 2 1 charge)
 -- A with another end load
 abbrev pub ended : ℕ → List ℕ
 ended e = likeA e 0 [] 0 []
+
+-- A with end load 2, where the list {1} has load -1, and with so many pairs (02, Req 03)
+abbrev pub aboard : ℕ → List ℕ → List ℕ
+aboard pairs bytes = likeA 2 pairs bytes 0 []
 
 -- Sheet B, of our own: two starts, two doors for task 0, doors that depart from another point than they arrive at, distances that differ with the
 -- direction, and numbers of several bytes. E 20; w +7, -4; door 0 (task 1, points 2 to 0, work 70,000), door 1 (task 0, points 1 to 2, work 5), door 2 (task 0,
@@ -310,3 +316,24 @@ checkFurther =
     && planning (plan sheetB cellNoise byteNoise) 70007 (9 ∷ 4 ∷ 6 ∷ 7 ∷ 11 ∷ 92 ∷ 70025 ∷ 74809 ∷ 70009 ∷ 70030 ∷ 70314 ∷ 70007 ∷ []) planB
     && sameAnswer (validate sheetB planB) (accepted 70007)
     && sameList (printed sheetB) (ascii "cost 70007\nstart 1\ndoor 0 task 1 open 3\ndoor 2 task 0 open 1\n")
+
+-- a crate taken aboard in the round (02, Req 03)
+unfoldable pub checkAboard : Bool
+checkAboard =
+    -- with the pair (1, 0), which keeps {1} from being open, it is planned, and cells 6 to 8 keep their numbers; the old 16 refused it
+    planning (plan (aboard 1 (pairBytes 1 0)) cellNoise byteNoise) 70 (0 ∷ 20 ∷ 30 ∷ 38 ∷ 24 ∷ 52 ∷ 907 ∷ 908 ∷ 909 ∷ 70 ∷ 74 ∷ 58 ∷ []) (planLikeA 1 0 70)
+    && sameAnswer (validate (aboard 1 (pairBytes 1 0)) (planLikeA 1 0 70)) (accepted 70)
+    && sameList (printed (aboard 1 (pairBytes 1 0))) (ascii "cost 70\nstart 0\ndoor 1 task 1 open 3\ndoor 0 task 0 open 1\n")
+    && planningRefuses (planBefore (aboard 1 (pairBytes 1 0)) cellNoise byteNoise) 16
+    -- without the pair it gets 16
+    && planningRefuses (plan (aboard 0 []) cellNoise byteNoise) 16
+    -- with the pair (0, 0) it gets 17, although 16 applies too
+    && readingRefuses (readSheet (aboard 1 (pairBytes 0 0))) 17
+    && tooLight (decode (aboard 1 (pairBytes 0 0)))
+    -- with the pairs (0, 1) and (1, 0) it gets 17, and the new 16 does not apply; the old one did, and was answered
+    && readingRefuses (readSheet (aboard 2 (pairBytes 0 1 ++ pairBytes 1 0))) 17
+    && not (tooLight (decode (aboard 2 (pairBytes 0 1 ++ pairBytes 1 0))))
+    && planningRefuses (planBefore (aboard 2 (pairBytes 0 1 ++ pairBytes 1 0)) cellNoise byteNoise) 16
+    -- A itself passes the old 16, and is planned as it was
+    && not (lightestTooLight (decode sheetA))
+    && planning (planBefore sheetA cellNoise byteNoise) 92 (0 ∷ 20 ∷ 30 ∷ 54 ∷ 24 ∷ 84 ∷ 57 ∷ 64 ∷ 36 ∷ 92 ∷ 68 ∷ 90 ∷ []) planA

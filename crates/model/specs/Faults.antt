@@ -1,14 +1,16 @@
--- The sheet's own faults, 10 to 17, and reading a sheet (01, Numbers a call can answer with, which every definition here is from). Assumes nothing.
-use mathlib.Core.Bool.{Bool, cond, not, _||_}
+-- The sheet's own faults, 10 to 17, and reading a sheet (01, Numbers a call can answer with, which every definition here is from, but 16 and its place in the order,
+-- which are from 02, Req 03). Assumes nothing.
+use mathlib.Core.Bool.{Bool, not, _&&_, _||_}
 use mathlib.Core.List.{List, [], _∷_}
-use Prim.Native.Nat.{ℕ, zero, suc, _^_}
+use Prim.Native.Nat.{ℕ, suc, _^_}
 use lib.Dec.{eqb, ltb, leb}
 use lib.ListN.{length, getD}
-use lib.IntN.{ℤ, pos, _+ℤ_}
+use lib.IntN.{pos}
 use lib.Signed.{ltZ}
 use Rattle.model.specs.Folds.{allBelow, anyBelow, isBetween}
 use Rattle.model.specs.Sheet.{Sheet}
-use Rattle.model.specs.Orders.{noOrder}
+use Rattle.model.specs.Orders.{noOrder, essential}
+use Rattle.model.specs.Cost.{load}
 use Rattle.model.specs.Bytes.{numberAt}
 use Rattle.model.specs.Answer.{Answer, accepted, Test, _when_, refuseFirst, placed}
 use Rattle.model.specs.SheetLayout.{Layout, pointsBody, bodies, lineAt, lineBody, lineOffset, entries, bodyAt, layoutOf, decode}
@@ -86,18 +88,18 @@ lacksDoor S t = allBelow (S .doors) (λ d. not (eqb (S .task d) t))
 unfoldable pub someLacksDoor : Sheet → Bool
 someLacksDoor S = anyBelow (S .tasks) (lacksDoor S)
 
--- the end load plus all negative changes; here of the tasks below n
-abbrev pub lightestBelow : Sheet → ℕ → ℤ
-lightestBelow S zero = pos (S .endLoad)
-lightestBelow S (suc n) = lightestBelow S n +ℤ cond (ltZ (S .change n) (pos 0)) (S .change n) (pos 0)
+-- 16, of list K: it is essential, and its load is below zero (02, Req 03)
+unfoldable pub lightList : Sheet → ℕ → Bool
+lightList S K = essential S K && ltZ (load S K) (pos 0)
 
--- 16: the end load plus all negative changes is below zero
+-- 16: some essential list has a load below zero (02, Req 03). Lists run to 2 ^ N - 1, the full one
 unfoldable pub tooLight : Sheet → Bool
-tooLight S = ltZ (lightestBelow S (S .tasks)) (pos 0)
+tooLight S = anyBelow (2 ^ S .tasks) (lightList S)
 
 -- ---- the answer: the first fault that applies
 
--- the sheet's own numbers, in the order in which they are tested
+-- the sheet's own numbers, in the order in which they are tested: 17 comes before 16 (02, Req 03), so of several that apply it is not the lowest that is answered, but
+-- the first in this order
 unfoldable pub sheetTests : List ℕ → List Test
 sheetTests b =
     (10 when tooShort b)
@@ -106,8 +108,8 @@ sheetTests b =
     ∷ (13 when wrongPlaces (layoutOf b) b)
     ∷ (14 when outOfRange (layoutOf b) (decode b))
     ∷ (15 when someLacksDoor (decode b))
-    ∷ (16 when tooLight (decode b))
     ∷ (17 when noOrder (decode b))
+    ∷ (16 when tooLight (decode b))
     ∷ []
 
 -- the answer a, unless the sheet has a fault; planning and judging read first

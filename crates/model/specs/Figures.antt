@@ -1,20 +1,20 @@
--- Document 01's own figures: where each number of a sheet stands, and what each number that a call can answer with means, in plain facts. No figure here comes from
--- the table of SheetLayout.antt, and no order from a list of tests. `figures` proves `FiguresHold`, which is all of it (01, Layout of a task sheet, Layout of a plan
--- and Numbers a call can answer with). Assumes nothing.
+-- Document 01's own figures: where each number of a sheet stands, what each number that a call can answer with means, in plain facts, and in which order they are
+-- tested. No figure here comes from the table of SheetLayout.antt, and no order from a list of tests. `figures` proves `FiguresHold`, which is all of it (01, Layout of
+-- a task sheet, Layout of a plan and Numbers a call can answer with; 16 and its place as 02, Req 03, has them). Assumes nothing.
 use mathlib.Core.Path.{_≡_}
 use mathlib.Core.Logic.{_↔_}
 use mathlib.Core.Bool.{true}
-use mathlib.Core.List.{List, [], _∷_}
-use Prim.Native.Nat.{ℕ, _+_, _*_, _^_, _≤_, _<_}
+use mathlib.Core.List.{List, [], _∷_, _++_}
+use Prim.Native.Nat.{ℕ, _+_, _*_, _/_, _%_, _^_, _≤_, _<_}
 use lib.ListN.{length, take}
-use Rattle.model.specs.Folds.{sumBelow, mapBelow}
+use Rattle.model.specs.Folds.{sumBelow, mapBelow, indexOf}
 use Rattle.model.specs.Sheet.{Sheet}
 use Rattle.model.specs.Orders.{isAdmissible}
 use Rattle.model.specs.Plans.{roundCost}
 use Rattle.model.specs.Bytes.{numberAt, signed}
 use Rattle.model.specs.Answer.{Answer, refused, accepted, status}
 use Rattle.model.specs.SheetLayout.{decode}
-use Rattle.model.specs.Passing.{InRange, down}
+use Rattle.model.specs.Passing.{InRange, up, down}
 use Rattle.model.specs.Planning.{plan}
 use Rattle.model.specs.Printing.{printedWith, printed}
 use Rattle.model.specs.PlanLayout.{writePlan, readPlan}
@@ -124,6 +124,14 @@ pub record RightRanges (S : Sheet) : Type 0 where
   pub named : InRange S
   pub leastCount : (i : ℕ) → i < S .rules → Between 1 12 (S .leastCount i)
 
+-- task t is in list K: bit t of K
+abbrev pub HasTask : ℕ → ℕ → Type 0
+HasTask K t = K / 2 ^ t % 2 ≡ 1
+
+-- 16: E and what the tasks of list K add is less than what they take away, so that E plus the w of its tasks is below zero
+abbrev pub BelowZero : Sheet → ℕ → Type 0
+BelowZero S K = S .endLoad + sumBelow (S .tasks) (λ t. K / 2 ^ t % 2 * up (S .change t)) < sumBelow (S .tasks) (λ t. K / 2 ^ t % 2 * down (S .change t))
+
 -- the number r applies to the sheet b
 pub data SheetApplies (b : List ℕ) (r : ℕ) : Type 0 where
   -- 10: the sheet is shorter than 46 bytes
@@ -138,10 +146,11 @@ pub data SheetApplies (b : List ℕ) (r : ℕ) : Type 0 where
   is14 : r ≡ 14 → (RightRanges (decode b) → ⊥) → SheetApplies b r
   -- 15: some task has no door
   is15 : r ≡ 15 → (t : ℕ) → t < decode b .tasks → ((d : ℕ) → d < decode b .doors → decode b .task d ≡ t → ⊥) → SheetApplies b r
-  -- 16: E plus all negative w is below zero
-  is16 : r ≡ 16 → decode b .endLoad < sumBelow (decode b .tasks) (λ t. down (decode b .change t)) → SheetApplies b r
   -- 17: no order of the tasks keeps every pair
   is17 : r ≡ 17 → ((ts : List ℕ) → isAdmissible (decode b) ts ≡ true → ⊥) → SheetApplies b r
+  -- 16: some list K from 1 to 2^N - 1, with the receiver of each pair whose sender it has, has E plus the w of its tasks below zero
+  is16 : r ≡ 16 → (K : ℕ) → 1 ≤ K → K < 2 ^ decode b .tasks
+      → ((i : ℕ) → i < decode b .pairs → HasTask K (decode b .sender i) → HasTask K (decode b .receiver i)) → BelowZero (decode b) K → SheetApplies b r
 
 -- ---- what the numbers of planning mean
 
@@ -202,21 +211,43 @@ pub data ReadingPlanApplies (n lent : ℕ) (q : List ℕ) (r : ℕ) : Type 0 whe
   -- 30: the condition that judging has for it
   is30 : r ≡ 30 → (LaidOut n q → ⊥) → ReadingPlanApplies n lent q r
 
+-- ---- the order in which each call tests its numbers
+
+-- the sheet's own: 17 before 16 (02, Req 03)
+abbrev pub sheetOrder : List ℕ
+sheetOrder = 10 ∷ 11 ∷ 12 ∷ 13 ∷ 14 ∷ 15 ∷ 17 ∷ 16 ∷ []
+
+abbrev pub planningOrder : List ℕ
+planningOrder = sheetOrder ++ (20 ∷ 21 ∷ [])
+
+abbrev pub validatingOrder : List ℕ
+validatingOrder = sheetOrder ++ (30 ∷ 31 ∷ 32 ∷ 33 ∷ 34 ∷ [])
+
+abbrev pub writingOrder : List ℕ
+writingOrder = 12 ∷ 21 ∷ []
+
+abbrev pub readingPlanOrder : List ℕ
+readingPlanOrder = 12 ∷ 30 ∷ []
+
 -- ---- what a call answers
 
--- r applies, and no lower number does
-abbrev pub Lowest : (ℕ → Type 0) → ℕ → Type 0
-Lowest applies r = applies r × ((n : ℕ) → n < r → applies n → ⊥)
+-- n is tested before r
+abbrev pub Before : List ℕ → ℕ → ℕ → Type 0
+Before order n r = indexOf n order < indexOf r order
+
+-- r applies, and no number that is tested before it does: the order decides, and not which number is lower
+abbrev pub First : List ℕ → (ℕ → Type 0) → ℕ → Type 0
+First order applies r = applies r × ((n : ℕ) → Before order n r → applies n → ⊥)
 
 -- no number applies
 abbrev pub None : (ℕ → Type 0) → Type 0
 None applies = (n : ℕ) → applies n → ⊥
 
--- the call is refused with r exactly if r applies and no lower number that it can give applies, and is accepted exactly if none does; and so by what is returned
-pub record AnswersBy {A : Type 0} (applies : ℕ → Type 0) (a : Answer A) : Type 0 where
-  pub refuses : (r : ℕ) → (a ≡ refused r) ↔ Lowest applies r
+-- the call is refused with r exactly if r applies and none that it tests before r does, and is accepted exactly if none applies; and so by what is returned
+pub record AnswersBy {A : Type 0} (order : List ℕ) (applies : ℕ → Type 0) (a : Answer A) : Type 0 where
+  pub refuses : (r : ℕ) → (a ≡ refused r) ↔ First order applies r
   pub accepts : ((x : A) × (a ≡ accepted x)) ↔ None applies
-  pub returns : (r : ℕ) → 0 < r → (status a ≡ r) ↔ Lowest applies r
+  pub returns : (r : ℕ) → 0 < r → (status a ≡ r) ↔ First order applies r
   pub returns-0 : (status a ≡ 0) ↔ None applies
 
 -- ---- all of it
@@ -225,12 +256,12 @@ pub record FiguresHold : Type 0 where
   -- every field of a sheet stands where document 01 puts it
   pub stands-at : (b : List ℕ) → StandsAt b (decode b)
   -- each call is refused with its numbers, and accepts, exactly where document 01 says so
-  pub reading : (b : List ℕ) → AnswersBy (SheetApplies b) (readSheet b)
-  pub planning : (b cells buffer : List ℕ) → AnswersBy (PlanningApplies b (length cells) (length buffer)) (plan b cells buffer .answer)
-  pub validating : (b q : List ℕ) → AnswersBy (ValidatingApplies b q) (validate b q)
+  pub reading : (b : List ℕ) → AnswersBy sheetOrder (SheetApplies b) (readSheet b)
+  pub planning : (b cells buffer : List ℕ) → AnswersBy planningOrder (PlanningApplies b (length cells) (length buffer)) (plan b cells buffer .answer)
+  pub validating : (b q : List ℕ) → AnswersBy validatingOrder (ValidatingApplies b q) (validate b q)
   pub writing-a-plan : (n start : ℕ) (doors : List ℕ) (c : ℕ) (buffer : List ℕ)
-      → AnswersBy (WritingApplies n (length doors) (length buffer)) (writePlan n start doors c buffer .answer)
-  pub reading-a-plan : (n lent : ℕ) (q : List ℕ) → AnswersBy (ReadingPlanApplies n lent q) (readPlan n lent q)
+      → AnswersBy writingOrder (WritingApplies n (length doors) (length buffer)) (writePlan n start doors c buffer .answer)
+  pub reading-a-plan : (n lent : ℕ) (q : List ℕ) → AnswersBy readingPlanOrder (ReadingPlanApplies n lent q) (readPlan n lent q)
   -- with twelve doors lent, as document 01 has it, 12 is for N outside 1 to 12 alone
   pub writing-twelve : (n start : ℕ) (doors : List ℕ) (c : ℕ) (buffer : List ℕ) → length doors ≡ 12
       → (writePlan n start doors c buffer .answer ≡ refused 12) ↔ (Between 1 12 n → ⊥)

@@ -16,6 +16,7 @@ pub mod Planning
 pub mod Printing
 pub mod Passing
 pub mod Demands
+pub mod Lightest
 pub mod Figures
 pub mod Examples
 pub mod Neighbours
@@ -41,8 +42,8 @@ pub use SheetLayout.{Layout, tasksBody, doorsBody, startsBody, pairsBody, rulesB
 pub use SheetLayout.{maxStarts, maxPairs, maxRules, maxPoints, bodyAt}
 unfoldable pub use Faults.{tooShort, wrongKind, wrongEntries, someWrongEntries, wrongLine, wrongLength, wrongPlaces, badDoor, badStart}
 unfoldable pub use Faults.{badPair, badRule, someBadDoor, someBadStart, someBadPair, someBadRule, outOfRange, lacksDoor, someLacksDoor}
-unfoldable pub use Faults.{tooLight, sheetTests, unlessFault, readSheet}
-pub use Faults.{lightestBelow, Counts, tasksLeft, pointsLeft}
+unfoldable pub use Faults.{lightList, tooLight, sheetTests, unlessFault, readSheet}
+pub use Faults.{Counts, tasksLeft, pointsLeft}
 unfoldable pub use PlanLayout.{planStartAt, planDoorsAt, planCostAt, planLength, lineBytes, planHead, doorBytes, planBytes, wrongTasks}
 unfoldable pub use PlanLayout.{shortRoom, writeTests, writeAnswer, bytesWritten, writePlan, wrongHead, illFormed, startIn, doorIn, doorsIn}
 unfoldable pub use PlanLayout.{costIn, doorArray, readTests, readPlan}
@@ -54,6 +55,8 @@ unfoldable pub use Planning.{cellsNeeded, fewCells, roomTests, planFor, cellAfte
 pub use Planning.{orNoOrder, Planned, carriedOut}
 unfoldable pub use Printing.{decimal, refusalLine, stepLine, planLines, printedWith, print, printed}
 pub use Printing.{ascii, decimalBy, lineEnd, stepLines, answerLines, Printed, printInput, printCells}
-pub use Passing.{EntriesWithin, CountsWithin, InRange, LeastCounts, Served, Passes, Plannable, down, Light, LoadsHold}
+pub use Passing.{EntriesWithin, CountsWithin, InRange, LeastCounts, Served, Passes, Plannable, LoadsHold, SomeTooLight, up, down}
+unfoldable pub use Lightest.{lightestTooLight, testsBefore, planBefore}
+pub use Lightest.{lightestBelow, LightestHolds, SinceThen}
 unfoldable pub use Method.{withIn, listsOf, fullOf, isFree, canComeFirst, firstDoors, meets, sendersOf, somethingLeft}
 pub use Method.{maskBits, sendersBelow, strike, strikeBelow, strikeOff, legs, chargesOn, openOn}

@@ -12,7 +12,7 @@ use Rattle.model.specs.Faults.{readSheet}
 use Rattle.model.specs.PlanLayout.{writePlan, readPlan}
 use Rattle.model.specs.Validating.{validate}
 use Rattle.model.specs.Planning.{plan}
-use Rattle.model.specs.Examples.{sheetA, headOf, likeA, pairBytes, ruleBytes, paired, ringed, sheetB, cellNoise, byteNoise, planA, planLikeA, sameAnswer, readingRefuses, readingAnswers, planRefuses}
+use Rattle.model.specs.Examples.{sheetA, headOf, likeA, pairBytes, ruleBytes, paired, ringed, aboard, sheetB, cellNoise, byteNoise, planA, planLikeA, sameAnswer, readingRefuses, readingAnswers, planRefuses}
 use Rattle.model.specs.Method.{maskBits, withIn, listsOf, fullOf, meets, sendersOf}
 
 -- ---- sheets
@@ -96,15 +96,18 @@ checkMethod =
 
 unfoldable pub checkNeighbours : Bool
 checkNeighbours =
-    -- two numbers apply, and the first in the order tested is the answer: 10 and 11, .. 16 and 17
+    -- two numbers apply, and the first in the order tested is the answer: 10 and 11, .. 14 and 15, 15 and 17, 17 and 16, 15 and 16
     readingRefuses (readSheet (take 45 (changed 0 2))) 10
     && readingRefuses (readSheet (set (changed 0 2) 8 13)) 11
     && readingRefuses (readSheet (set (changed 8 13) 4 2)) 12
     && readingRefuses (readSheet (set (changed 4 2) 60 2)) 13
     && readingRefuses (readSheet (set (changed 60 0) 70 3)) 14
+    && readingRefuses (readSheet (set ringed 60 0)) 15
+    && readingRefuses (readSheet (aboard 1 (pairBytes 0 0))) 17
     && readingRefuses (readSheet (set (changed 60 0) 2 2)) 15
-    && readingRefuses (readSheet (likeA 2 2 (pairBytes 0 1 ++ pairBytes 1 0) 0 [])) 16
-    -- 17 and 20 (20 and 21 at once are in `checkFurther`); 17 and 30
+    -- 16 and 20 (20 and 21 at once are in `checkFurther`); 16 and 30; 17 and 20; 17 and 30
+    && sameAnswer (plan (aboard 0 []) (take 11 cellNoise) byteNoise .answer) (refused 16)
+    && sameAnswer (validate (aboard 0 []) (take 35 planA)) (refused 16)
     && sameAnswer (plan ringed (take 11 cellNoise) byteNoise .answer) (refused 17)
     && sameAnswer (validate ringed (take 35 planA)) (refused 17)
     -- 30 and 31; 31 and 32, with start 1 and doors 0, 0; 32 and 33, driven 1, 0, 0, where 1, 0, 2 gets 33; 33 and 34
@@ -151,6 +154,9 @@ checkNeighbours =
     && readingAnswers (readSheet (ruled 0 1)) 2 3
     && readingAnswers (readSheet (ruled 3 1)) 2 3
     && readingRefuses (readSheet (ruled 4 1)) 14
+    -- the full list alone can be too light: one task, w -1; with E 0 it gets 16, with E 1 it reads
+    && readingRefuses (readSheet (set (set shortest 46 255) 47 255)) 16
+    && readingAnswers (readSheet (set (set (set shortest 46 255) 47 255) 2 1)) 1 1
     -- a repeated pair; a start listed twice, of which the earlier is planned
     && sameAnswer (plan (likeA 10 2 (pairBytes 1 0 ++ pairBytes 1 0) 0 []) cellNoise byteNoise .answer) (accepted 126)
     && sameAnswer (plan (set sheetB 82 1) cellNoise byteNoise .answer) (accepted 70314)

@@ -1,5 +1,5 @@
--- What passing 10 to 15, and 16, means in plain facts (01, Layout of a task sheet and Numbers a call can answer with, which every definition here is from).
--- Assumes nothing.
+-- What passing 10 to 15, and 16, means in plain facts (01, Layout of a task sheet and Numbers a call can answer with, which every definition here is from, but 16,
+-- which is from 02, Req 03). Assumes nothing.
 use mathlib.Core.Path.{_≡_}
 use mathlib.Core.Bool.{true, false}
 use mathlib.Core.List.{List}
@@ -8,7 +8,6 @@ use lib.Dec.{T}
 use lib.IntN.{ℤ, pos, negsuc}
 use lib.ListN.{length, getD}
 use lib.Signed.{nonNeg}
-use Rattle.model.specs.Folds.{sumBelow}
 use Rattle.model.specs.Sheet.{Sheet}
 use Rattle.model.specs.Orders.{noOrder, essential}
 use Rattle.model.specs.Cost.{load}
@@ -82,15 +81,19 @@ pub record Plannable (S : Sheet) : Type 0 where
 
 -- ---- 16
 
--- what a change takes away from a load
+-- no essential list has a load below zero (02, Req 03), which is all that costing asks of a load (01, Cost of a round)
+abbrev pub LoadsHold : Sheet → Type 0
+LoadsHold S = (K : ℕ) → K < 2 ^ S .tasks → essential S K ≡ true → T (nonNeg (load S K))
+
+-- and otherwise some essential list has one
+abbrev pub SomeTooLight : Sheet → Type 0
+SomeTooLight S = (K : ℕ) × (K < 2 ^ S .tasks) × (essential S K ≡ true) × (T (nonNeg (load S K)) → ⊥)
+
+-- what a change adds to a load, and what it takes away from it
+abbrev pub up : ℤ → ℕ
+up (pos n) = n
+up (negsuc n) = 0
+
 abbrev pub down : ℤ → ℕ
 down (pos n) = 0
 down (negsuc n) = suc n
-
--- the end load plus all negative changes is not below zero: all that is taken away is at most the end load
-abbrev pub Light : Sheet → Type 0
-Light S = sumBelow (S .tasks) (λ j. down (S .change j)) ≤ S .endLoad
-
--- no essential list has a load below zero, which is all that costing asks of 16 (01, Cost of a round)
-abbrev pub LoadsHold : Sheet → Type 0
-LoadsHold S = (K : ℕ) → K < 2 ^ S .tasks → essential S K ≡ true → T (nonNeg (load S K))

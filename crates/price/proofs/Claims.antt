@@ -3,23 +3,23 @@
 use Rattle.model.proofs.Basics.{_≡_, refl, sym, ap, _∙_, _⊎_, inl, inr, ⊎-elim, _↔_, Bool, true, false, _||_, List, [], _∷_, _++_, some}
 use Rattle.model.proofs.Basics.{ℕ, _+_, _*_, _^_}
 use Rattle.model.proofs.Basics.{_≤_, _<_, arith, lit<, ltb, length, getD, take, ext-getD, ltb-true, lt-ltb, le-ltb, mul-le-mul-right}
-use Rattle.model.specs.{Answer.Answer, Plans.Plan, Sheet.Sheet, mapBelow, full, planCost, cheapest, costToGo, refused, accepted, Test}
+use Rattle.model.specs.{Answer.Answer, Plans.Plan, Sheet.Sheet, mapBelow, indexOf, full, planCost, cheapest, costToGo, refused, accepted, Test}
 use Rattle.model.specs.{_when_, refuseFirst, status}
 use Rattle.model.specs.{placed, placedNumber, overwrite, decode, decodeBy, entries, lineAt, readSheet, sheetTests, unlessFault}
 use Rattle.model.specs.{planLength, planBytes, shortRoom}
 use Rattle.model.specs.{cellsNeeded, fewCells, roomTests, orNoOrder, planFor, carriedOut, plan}
-use Rattle.model.specs.Figures.{AnswersBy}
+use Rattle.model.specs.Figures.{SheetApplies, Before, AnswersBy}
 use Rattle.model.specs.Demands.{SheetNumber}
 use Rattle.model.proofs.Tools.Tests.{or-true, not-less}
 use Rattle.model.proofs.Tools.Folds.{length-mapBelow, mapBelow-at}
 use Rattle.model.proofs.Tools.Refusing.{refused≢accepted, refused-number, accepted-value, returned, returned-refusal, AllPass, Applies}
 use Rattle.model.proofs.Tools.Refusing.{accepted-pass, refused-applies}
-use Rattle.model.proofs.Tools.Refusing.{refuse-append, pass-append, applies-append, answers-by}
+use Rattle.model.proofs.Tools.Refusing.{refuse-append, pass-append, applies-append, applies-before, answers-by}
 use Rattle.model.proofs.Theory.Cheapest.{cheapest-solution}
 use Rattle.model.proofs.Theory.Solutions.{solution, solution-length}
 use Rattle.model.proofs.Bytes.PlanBytes.{length-is}
 use Rattle.model.proofs.Calls.Reading.{Reads, all-reads, reads-then, accepted-reads, sheet-within}
-use Rattle.model.proofs.Calls.Figures.{sheet-applies, rising-sheet, reading-answers, planning-answers}
+use Rattle.model.proofs.Calls.Figures.{sheet-applies, reading-answers, planning-answers}
 use Rattle.model.proofs.Calls.Planning.{has-plan, planned}
 use Rattle.rank.specs.Binomials.{mostLists}
 use Rattle.rank.proofs.Binomials.{two-layers-less, two-layers-same-1, two-layers-same-2}
@@ -27,7 +27,7 @@ use Rattle.layers.specs.Layers.{layerCells, OpenCell, LayerFilled}
 use Rattle.price.specs.Pricing.{shortLayer, layerTests, unlessShort, Price, priceOf, priceIn, price, LayerAfter, LayersAfter}
 use Rattle.price.specs.Pricing.{layerOf, priceRow, RowPlace, rowPlace}
 use Rattle.price.specs.Pricing.{priceCost, priceStart}
-use Rattle.price.specs.Claims.{PricingApplies, EitherShort, PricingHolds, PriceIsPlan, SameLeft, LentOrCost, rowTold, LayersLeft}
+use Rattle.price.specs.Claims.{PricingApplies, pricingOrder, EitherShort, PricingHolds, PriceIsPlan, SameLeft, LentOrCost, rowTold, LayersLeft}
 use Rattle.price.specs.Claims.{FewerCells}
 use Rattle.price.proofs.Fits.{Fits, fits, fits-then, fits-0, refused-alike-22, priced, row-there}
 use Rattle.price.proofs.Quoting.{row-shows}
@@ -67,10 +67,10 @@ module _ (b : List ℕ) (even odd : ℕ) where
       back (PricingApplies.even22 e l) = inr (inl (e, short-is .1 (inl l)))
       back (PricingApplies.odd22 e l) = inr (inl (e, short-is .1 (inr l)))
 
-  answers : AnswersBy (PricingApplies b even odd) (price b even odd)
-  unfolding price unlessShort unlessFault tests layerTests
+  answers : AnswersBy pricingOrder (PricingApplies b even odd) (price b even odd)
+  unfolding price unlessShort unlessFault tests sheetTests layerTests
   answers = rw (refuse-append (sheetTests b) (layerTests (decode b) even odd) (priceIn (decode b) (orNoOrder (cheapest (decode b)))))
-      (answers-by tests _ (PricingApplies b even odd) (rising-sheet b _ (lit< tt, tt))
+      (answers-by pricingOrder tests _ (PricingApplies b even odd) refl
       (λ p. let x = has-plan b (all-reads b (pass-append (sheetTests b) (layerTests (decode b) even odd) p .0)) in
       (priceOf (decode b) (x .0), ap (λ o. priceIn (decode b) (orNoOrder o)) (x .1)))
       (λ r n. pricing-applies r))
@@ -93,13 +93,18 @@ module _ (b : List ℕ) (even odd : ℕ) where
   right (inl l) = PricingApplies.even22 refl l
   right (inr l) = PricingApplies.odd22 refl l
 
+  -- and is tested before it
+  earlier : (n : ℕ) → SheetApplies b n → Before pricingOrder n 22
+  unfolding sheetTests
+  earlier n s = applies-before (sheetTests b) (22 ∷ []) n (sheet-applies b n .1 s)
+
   gets : (price b even odd ≡ refused 22) ↔ ((status (readSheet b) ≡ 0) × EitherShort b even odd)
   gets = (
     (λ e. let p = answers .refuses 22 .0 e in (
-      reading-answers b .returns-0 .1 (λ n s. p .1 n (omega (arith, sheet-within b n (sheet-applies b n .1 s) .1)) (PricingApplies.sheet s)),
+      reading-answers b .returns-0 .1 (λ n s. p .1 n (earlier n s) (PricingApplies.sheet s)),
       ⊎-elim (λ l. absurd (omega arith)) (λ k. k .1) (own-number 22 (p .0)),
     )),
-    (λ h. answers .refuses 22 .1 (right (h .1), λ n l a. omega (arith, left (h .0) n a .0))),
+    (λ h. answers .refuses 22 .1 (right (h .1), λ n l a. omega (arith, l, ap (λ (x : ℕ). indexOf x pricingOrder) (left (h .0) n a .0)))),
   )
 
   -- the row call has the same tests

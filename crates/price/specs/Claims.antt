@@ -4,7 +4,7 @@
 use mathlib.Core.Path.{_≡_}
 use mathlib.Core.Logic.{_⊎_, _↔_}
 use mathlib.Core.Bool.{true, cond}
-use mathlib.Core.List.{List, []}
+use mathlib.Core.List.{List, [], _∷_, _++_}
 use Prim.Native.Nat.{ℕ, _+_, _*_, _/_, _%_, _^_, _≤_, _<_}
 use lib.Dec.{eqb}
 use lib.ListN.{length, getD, take}
@@ -20,7 +20,7 @@ use Rattle.model.specs.Faults.{readSheet}
 use Rattle.model.specs.PlanLayout.{planBytes}
 use Rattle.model.specs.Planning.{cellsNeeded, planFor, plan}
 use Rattle.model.specs.Demands.{SheetNumber}
-use Rattle.model.specs.Figures.{tasksStated, pointsStated, SheetApplies, AnswersBy}
+use Rattle.model.specs.Figures.{tasksStated, pointsStated, SheetApplies, sheetOrder, AnswersBy}
 use Rattle.rank.specs.Binomials.{mostLists}
 use Rattle.rank.specs.Ranks.{rank}
 use Rattle.layers.specs.Layers.{layerCells}
@@ -35,13 +35,17 @@ pub data PricingApplies (b : List ℕ) (even odd r : ℕ) : Type 0 where
   even22 : r ≡ 22 → even < mostLists (tasksStated b) * pointsStated b → PricingApplies b even odd r
   odd22 : r ≡ 22 → odd < mostLists (tasksStated b) * pointsStated b → PricingApplies b even odd r
 
+-- the order in which pricing tests its numbers
+abbrev pub pricingOrder : List ℕ
+pricingOrder = sheetOrder ++ (22 ∷ [])
+
 -- either layer has fewer than B times P cells
 abbrev pub EitherShort : List ℕ → ℕ → ℕ → Type 0
 EitherShort b even odd = (even < mostLists (decode b .tasks) * decode b .points) ⊎ (odd < mostLists (decode b .tasks) * decode b .points)
 
 pub record PricingHolds (b : List ℕ) (even odd : ℕ) : Type 0 where
-  -- refused with r exactly if r applies and no lower number that pricing can give does, accepted exactly if none does; and so by what is returned
-  pub answers : AnswersBy (PricingApplies b even odd) (price b even odd)
+  -- refused with r exactly if r applies and none that is tested before r does, accepted exactly if none applies; and so by what is returned
+  pub answers : AnswersBy pricingOrder (PricingApplies b even odd) (price b even odd)
   -- 22 exactly if the sheet reads and a layer has fewer than B times P cells; and so by what is returned
   pub gets-22 : (price b even odd ≡ refused 22) ↔ ((status (readSheet b) ≡ 0) × EitherShort b even odd)
   pub returns-22 : (status (price b even odd) ≡ 22) ↔ ((status (readSheet b) ≡ 0) × EitherShort b even odd)

@@ -7,7 +7,7 @@ use Rattle.model.specs.Folds.{sameList, mapBelow}
 use Rattle.model.specs.Plans.{costToGo}
 use Rattle.model.specs.Answer.{Answer, refused, accepted, status}
 use Rattle.model.specs.SheetLayout.{decode}
-use Rattle.model.specs.Examples.{sheetA, headOf, likeA, pairBytes}
+use Rattle.model.specs.Examples.{sheetA, headOf, likeA, pairBytes, aboard}
 use Rattle.layers.specs.Layers.{layerCells}
 use Rattle.price.specs.Pricing.{Price, price, priceRow, RowPlace, rowPlace}
 
@@ -46,6 +46,9 @@ checkPriced =
     -- the sheet's own numbers first: a pair of a task with itself is 17, no bytes are 10
     && eqb (status (price (likeA 10 1 (pairBytes 0 0) 0 []) 0 0)) 17
     && eqb (status (price [] 0 0)) 10
+    -- A with end load 2 gets 16, and with the pair (1, 0) its price (02, Req 03)
+    && eqb (status (price (aboard 0 []) 0 0)) 16
+    && isPrice 70 0 (price (aboard 1 (pairBytes 1 0)) 6 6)
     -- a pair changes the price: 126
     && isPrice 126 0 (price (likeA 10 1 (pairBytes 1 0) 0 []) 6 6)
     -- the even layer begins with the costs to go of the whole round, 92, 68, 90, and the row is its first three cells

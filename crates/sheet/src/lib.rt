@@ -45,15 +45,16 @@ fn read_bodies(s: &[u8], v: View) -> Reading
         return Reading::Refused(Refusal::OutOfRange);
     }
     let lacking = feasible::some_lacks_door(s, v);
-    let light = feasible::too_light(s, v);
+    let left = feasible::something_left(s, v);
+    let light = essential::too_light(s, v);
     if lacking {
         return Reading::Refused(Refusal::NoDoor);
     }
+    if left {
+        return Reading::Refused(Refusal::NoOrder);
+    }
     if light {
         return Reading::Refused(Refusal::TooLight);
-    }
-    if feasible::something_left(s, v) {
-        return Reading::Refused(Refusal::NoOrder);
     }
     Reading::Read(v)
 }

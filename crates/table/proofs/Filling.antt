@@ -13,8 +13,7 @@ use mathlib.Core.Bool.{and-false, or-true}
 use native.Mathlib.Nat.{le-div-iff-mul-le, div-lt-iff-lt-mul, zero-mul, one-mul}
 use lib.Arith.{digits-lt, digits-div, digits-mod}
 use lib.Seq.{getD-drop, getD-append-add}
-use Rattle.model.proofs.Theory.Loads.{light, loads-hold}
-use Rattle.model.proofs.Calls.{Reading.Reads, Reading.counts-read, Planning.plannable}
+use Rattle.model.proofs.Calls.{Reading.Reads, Reading.counts-read, Reading.loads-read, Planning.plannable}
 use Rattle.view.specs.declared.View.{View}
 use Rattle.view.specs.Views.{Viewed}
 use Rattle.table.specs.Cells.{cellBelow, cellsBelow, Shown, Fillable}
@@ -26,7 +25,7 @@ fillable {b} h w = record {
   view = w;
   counts = counts-read b h;
   plannable = plannable b h;
-  loads = loads-hold (decode b) (light (decode b) (h .light));
+  loads = loads-read b h;
 }
 
 -- ---- an element of what was overwritten

@@ -3,4 +3,3 @@ pub mod Filling
 pub mod Minimums
 pub mod Bellman
 pub mod ListRows
-pub mod Receivers

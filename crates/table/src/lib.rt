@@ -28,27 +28,6 @@ pub fn rest_rows(points: u16, k: u32) -> [usize; MAX_TASKS]
     rows
 }
 
-// Whether list k is essential: not empty and, for each pair, with the receiver whenever it has the sender.
-pub fn essential(s: &[u8], v: View, k: u32) -> bool
-    requires { ⌜ Viewed (now s) v ⌝ }
-    ensures { λ r. ⌜ r ≡ essential (decode (now (s .entry))) k ⌝ }
-{
-    if k == 0 {
-        return false;
-    }
-    let pairs = v.pairs;
-    let mut i: u16 = 0;
-    while i < pairs {
-        let sender = view::sender(s, v, i);
-        let receiver = view::receiver(s, v, i);
-        if tasklist::contains(k, sender) & !tasklist::contains(k, receiver) {
-            return false;
-        }
-        i = i + 1;
-    }
-    true
-}
-
 // Writes the row of the empty list: the end costs.
 pub fn end_row(s: &[u8], v: View, out: &mut [u64])
     requires { ⌜ Viewed (now s) v × (length (now out) ≡ decode (now s) .points) ⌝ }
@@ -105,7 +84,7 @@ pub fn fill(s: &[u8], v: View, cells: &mut [u64])
     let lists = tasklist::lists(v.tasks);
     let mut k: u32 = 1;
     while k < lists {
-        if essential(s, v, k) {
+        if essential::essential(s, v, k) {
             list_row(s, v, k, cells);
         }
         k = k + 1;

@@ -10,10 +10,9 @@ use Rattle.model.specs.{notInSheet, doneTwice, breaksPair, wrongCost, routeTest
 use Rattle.model.proofs.Tools.Tests.{or-left, or-right}
 use Rattle.model.proofs.Tools.Folds.{mapBelow-at}
 use Rattle.model.proofs.Tools.Lists.{all-imply, all-in, in-all}
-use Rattle.model.proofs.Theory.Loads.{light, loads-hold}
 use Rattle.model.proofs.Bytes.Ranges.{in-range, least-counts}
 use Rattle.model.proofs.Bytes.PlanBytes.{length-array, array-at, length-doors}
-use Rattle.model.proofs.Calls.Reading.{Reads, reads-then, counts-read, refused-alike}
+use Rattle.model.proofs.Calls.Reading.{Reads, reads-then, counts-read, loads-read, refused-alike}
 use Rattle.model.proofs.Calls.Validating.{tasks-below, judged-solution}
 use Rattle.view.specs.declared.View.{View}
 use Rattle.view.specs.Views.{Viewed}
@@ -118,7 +117,7 @@ module _ {b : List ℕ} {start : ℕ} {ds : List ℕ} {c : ℕ} (R : Routed b st
           solves bytes view =
               let x = R .reads .passed-tests .ranges in
               costable bytes view (counts-read b (R .reads)) ranges (least-counts (layoutOf b) (decode b) x)
-              (loads-hold (decode b) (light (decode b) (R .reads .light))) start
+              (loads-read b (R .reads)) start
               (judged-solution (decode b) ranges start ds (R .size) p₁ (rw t at p₂) (rw t at p₃)) e t
 
           -- r is the cost that it finds

@@ -1,8 +1,8 @@
 -- The widths of a sheet's fields: what bytes below 256 say of the numbers in them. Assumes nothing.
 use Rattle.model.proofs.Basics.{_≡_, true, List, ℕ, _*_, _^_, _≤_, _<_, arith, ltb, areBytes, ltb-true, ltb-false}
 use Rattle.model.specs.{Sheet.Sheet, signed, Layout, tasksBody, doorsBody, startsBody, pairsBody, rulesBody, pointsBody}
-use Rattle.model.specs.{distancesBody, kind1, fieldWidth, fieldAt, decodeBy, layoutOf, decode, down}
-use Rattle.model.proofs.{Theory.Loads.up, Bytes.Numbers.number-lt, Tools.Tests.by-test}
+use Rattle.model.specs.{distancesBody, kind1, fieldWidth, fieldAt, decodeBy, layoutOf, decode, up, down}
+use Rattle.model.proofs.{Bytes.Numbers.number-lt, Tools.Tests.by-test}
 
 -- in two's complement a number of k bytes is less than half of 256 to the k up
 pub signed-up : (k n : ℕ) → n < 256 ^ k → 2 * up (signed k n) < 256 ^ k

@@ -1,22 +1,24 @@
 -- The three demands on the product, as three theorems over the predicates of specs/: `demand-1`, `demand-2` and `demand-3`, each from the theorems on
 -- its call. Assumes nothing.
-use Rattle.model.proofs.Basics.{_≡_, refl, sym, ap, ap₂, _∙_, _⊎_, inl, inr, ⊎-elim, true, false, List, some, ℕ, _+_, _*_, _^_, _<_}
+use Rattle.model.proofs.Basics.{_≡_, refl, sym, ap, ap₂, _∙_, _⊎_, inl, inr, ⊎-elim, _↔_, true, false, List, some, ℕ, _+_, _*_, _^_, _<_}
 use Rattle.model.proofs.Basics.{lt-of-lt-of-le, lit≤, length, getD, take, drop, replicate, digits-lt}
 use Rattle.model.specs.{Examples.sheetA, noOrder, pairsAllow, cost, Plan, isSolution, planCost, cheapest, costToGo, refused, accepted}
 use Rattle.model.specs.{refuseIf, decode, readSheet, maxPlanDoors, planLength, planBytes, doorArray, readPlan, validate, cellsNeeded}
-use Rattle.model.specs.{orNoOrder, planFor, carriedOut, plan, CountsWithin}
-use Rattle.model.specs.Demands.{Cheapest, Demand1, Demand2, Demand3, Lent}
+use Rattle.model.specs.{orNoOrder, planFor, carriedOut, plan, CountsWithin, tooLight, unlessFault, LoadsHold, SomeTooLight}
+use Rattle.model.specs.Demands.{Cheapest, Demand1, Demand2, Demand3, Lent, LegsHold, SomeOrder, NoOrder}
 use Rattle.model.proofs.Tools.{Refusing.refused≢accepted, Refusing.accepted-value, Tests.by-test}
 use Rattle.model.proofs.Theory.Cheapest.{cheapest-solution, cheapest-least, cheapest-first, to-go-attained, to-go-least}
 use Rattle.model.proofs.Theory.{Solutions.solution, Solutions.solution-length, Solutions.solution-fits, Enumerations.has-order}
 use Rattle.model.proofs.Theory.{Enumerations.no-order-iff, Enumerations.no-order-false, Ranks.RanksBefore, Ranks.DoorsBefore}
-use Rattle.model.proofs.Theory.{Loads.light, Loads.light-passes, Driving.some-completion, Bounds.round-small, NoOrder.gets-17}
+use Rattle.model.proofs.Theory.{Loads.loads-hold, Loads.hold-passes, Loads.some-light, Driving.some-completion, Bounds.round-small, OpenAlong.solution-loads}
+use Rattle.model.proofs.Theory.{OpenAlong.completion-loads}
 use Rattle.model.proofs.Bytes.PlanBytes.{length-is, tasks-fit, array-at, array-front, read-what-was-written, read-length}
 use Rattle.model.proofs.Bytes.PlanBytes.{write-what-was-read, plan-over, written, written-whole, write-refusals, read-refusals}
 use Rattle.model.proofs.Bytes.Entries.{counts-within}
 use Rattle.model.proofs.Calls.Planning.{length-cells, cell-shown, cell-kept, cell-beyond, plan-for, planned, plan-refused}
 use Rattle.model.proofs.Calls.Planning.{refused-planned, plan-refusals, plannable, has-plan}
-use Rattle.model.proofs.Calls.Reading.{Cleared, Reads, reads-then, counts-read, accepted-reads, refused-reads, refused-alike}
+use Rattle.model.proofs.Calls.Reading.{Cleared, Reads, gets-17, gets-16, reads-then, counts-read, loads-read, accepted-reads}
+use Rattle.model.proofs.Calls.Reading.{refused-reads, refused-alike}
 use Rattle.model.proofs.Calls.{Validating.validate-iff, Validating.judge-refusals, Passing.passes-iff}
 use Rattle.model.proofs.Acceptance.{reads-A}
 
@@ -27,11 +29,11 @@ unfolding readSheet validate plan planFor
 demand-1 = record {
   reading = λ b r e. ⊎-elim (λ h. h) (λ h. absurd (refused≢accepted (sym (h .1)))) (refused-reads b _ r e);
   reads-iff = λ b. (
-    (λ e. let R : Reads b = accepted-reads b _ _ e .0 in (passes-iff b .0 (R .passed-tests), light (decode b) (R .light), has-order (decode b) (R .ordered))),
+    (λ e. let R : Reads b = accepted-reads b _ _ e .0 in (passes-iff b .0 (R .passed-tests), has-order (decode b) (R .ordered), loads-read b R)),
     (λ h. reads-then b _ (record {
       passed-tests = passes-iff b .1 (h .0);
-      light = light-passes (decode b) (h .1);
-      ordered = no-order-false (decode b) (h .2 .0) (h .2 .1);
+      ordered = no-order-false (decode b) (h .1 .0) (h .1 .1);
+      light = hold-passes (decode b) (h .2);
     })),
   );
   planning = λ b cells buffer r e.
@@ -74,18 +76,22 @@ module _ (b cells buffer : List ℕ) (L : Lent b cells buffer) where
   counts : CountsWithin (decode b)
   counts = counts-within b (L .passes .counts)
 
-  -- there is a plan or no order
-  answer-is : planFor b (length cells) (length buffer) ≡ refuseIf (noOrder (decode b)) 17 (orNoOrder (cheapest (decode b)))
+  -- with the room that is lent the sheet's own numbers are left
+  answer-is : planFor b (length cells) (length buffer) ≡ unlessFault b (orNoOrder (cheapest (decode b)))
   unfolding cellsNeeded
-  answer-is = plan-for b (length cells) (length buffer) tests (light-passes (decode b) (L .light)) (L .work-room) (rw length-is (L .plan-room))
+  answer-is = plan-for b (length cells) (length buffer) (L .work-room) (rw length-is (L .plan-room))
 
-  refused-17 : noOrder (decode b) ≡ true → plan b cells buffer .answer ≡ refused 17
-  refused-17 e = ap (λ x. x .answer) (plan-refused b cells buffer 17 (answer-is ∙ ap (λ t. refuseIf t 17 (orNoOrder (cheapest (decode b)))) e))
+  -- planning refuses exactly as its plan does
+  refusal-is : (r : ℕ) → (plan b cells buffer .answer ≡ refused r) ↔ (unlessFault b (orNoOrder (cheapest (decode b))) ≡ refused r)
+  refusal-is r = (
+    (λ e. sym answer-is ∙ refused-planned b cells buffer r e),
+    (λ e. ap (λ x. x .answer) (plan-refused b cells buffer r (answer-is ∙ e))),
+  )
 
-  module _ (ordered : noOrder (decode b) ≡ false) where
-    reads : Reads b
-    reads = record { passed-tests = tests; light = light-passes (decode b) (L .light); ordered = ordered }
+  there-is : Reads b → (x : Plan) × (orNoOrder (cheapest (decode b)) ≡ accepted x)
+  there-is R = let x = has-plan b R in (x .0, ap orNoOrder (x .1))
 
+  module _ (reads : Reads b) where
     x : Plan
     x = has-plan b reads .0
 
@@ -94,7 +100,7 @@ module _ (b cells buffer : List ℕ) (L : Lent b cells buffer) where
     is-cheapest = has-plan b reads .1
 
     after : plan b cells buffer ≡ carriedOut (decode b) (accepted x) cells buffer
-    after = planned b cells buffer x (answer-is ∙ ap₂ (λ t o. refuseIf t 17 (orNoOrder o)) ordered is-cheapest)
+    after = planned b cells buffer x (answer-is ∙ reads-then b _ reads ∙ ap orNoOrder is-cheapest)
 
     solves : isSolution (decode b) (x .start) (x .doors) ≡ true
     solves = cheapest-solution (decode b) x is-cheapest
@@ -152,17 +158,46 @@ module _ (b cells buffer : List ℕ) (L : Lent b cells buffer) where
         rank (inr (inr h)) = inr (inr h)
 
 pub demand-3 : (b cells buffer : List ℕ) → Lent b cells buffer → Demand3 b cells buffer
+unfolding readSheet
 demand-3 b cells buffer L = record {
-  reading-refuses-iff = gets-17 b (tests b cells buffer L) (light-passes (decode b) (L .light));
-  refuses-iff = (
-    (λ e. no-order-iff (decode b) .0 (by-test (noOrder (decode b)) (λ w. w) (λ w. absurd (planned-then w e)))),
-    (λ h. refused-17 b cells buffer L (no-order-iff (decode b) .1 h)),
-  );
-  otherwise = λ h. cheapest-planned b cells buffer L (by-test (noOrder (decode b)) (λ w. absurd (h (refused-17 b cells buffer L w))) (λ w. w));
+  reading-refuses-17-iff = gets-17 b _ (λ R. (_, refl)) cleared;
+  refuses-17-iff = refuses-17;
+  reading-refuses-16-iff = gets-16 b _ (λ R. (_, refl)) cleared;
+  refuses-16-iff = refuses-16;
+  planned = λ o l. cheapest-planned b cells buffer L (reads o l);
+  otherwise = λ n m.
+      let o = has-order (decode b) (by-test (noOrder (decode b)) (λ w. absurd (n (refuses-17 .1 (no-order-iff (decode b) .0 w)))) (λ w. w)) in
+      cheapest-planned b cells buffer L (reads o (loads-hold (decode b) (by-test (tooLight (decode b))
+      (λ w. absurd (m (refuses-16 .1 (o, some-light (decode b) w))))
+      (λ w. w))));
 }
   where
-    planned-then : noOrder (decode b) ≡ false → plan b cells buffer .answer ≡ refused 17 → ⊥
-    planned-then w e = refused≢accepted (sym e ∙ cheapest-planned b cells buffer L w .answered)
+    cleared : Cleared b
+    cleared = tests b cells buffer L
+
+    reads : SomeOrder (decode b) → LoadsHold (decode b) → Reads b
+    reads o l = record { passed-tests = cleared; ordered = no-order-false (decode b) (o .0) (o .1); light = hold-passes (decode b) l }
+
+    refuses-17 : (plan b cells buffer .answer ≡ refused 17) ↔ NoOrder (decode b)
+    refuses-17 =
+        let i = refusal-is b cells buffer L 17 in
+        let g = gets-17 b _ (there-is b cells buffer L) cleared in
+        ((λ e. g .0 (i .0 e)), (λ h. i .1 (g .1 h)))
+
+    refuses-16 : (plan b cells buffer .answer ≡ refused 16) ↔ (SomeOrder (decode b) × SomeTooLight (decode b))
+    refuses-16 =
+        let i = refusal-is b cells buffer L 16 in
+        let g = gets-16 b _ (there-is b cells buffer L) cleared in
+        ((λ e. g .0 (i .0 e)), (λ h. i .1 (g .1 h)))
+
+-- no leg of a sheet that reads is costed with a load below zero
+pub legs-hold : (b : List ℕ) → Reads b → LegsHold (decode b)
+legs-hold b R =
+    let inside = plannable b R .ranges in
+    record {
+      of-solutions = solution-loads (decode b) inside (loads-read b R);
+      of-completions = completion-loads (decode b) inside (loads-read b R);
+    }
 
 -- nothing is asked that no sheet meets: A, with 12 cells and 36 bytes
 pub lent-A : Lent sheetA (replicate 12 0) (replicate 36 0)
@@ -174,7 +209,6 @@ lent-A =
     record {
       bytes = refl;
       passes = passes-iff sheetA .0 (r .0 .passed-tests);
-      light = light (decode sheetA) (r .0 .light);
       work-room = rw (n, p) (lit≤ tt);
       plan-room = rw n (lit≤ tt);
     }

@@ -1,19 +1,20 @@
 -- Document 01's own figures hold of the definitions: every field stands where the document puts it, and reading and planning are refused with each
 -- of their numbers, and accept, exactly where the document says so. Assumes nothing.
 use Rattle.model.proofs.Basics.{_≡_, refl, sym, ap, _∙_, _⊎_, inl, inr, _↔_, true, false, not, List, _++_, ℕ, suc, _+_, _*_, _^_}
-use Rattle.model.proofs.Basics.{_<_, arith, eqb, lit<, length, eqb-true, eqb-false, eq-eqb, ne-eqb, ltb-true, lt-ltb, not-true}
+use Rattle.model.proofs.Basics.{_≤_, _<_, arith, eqb, pos, ltZ, lit<, length, eqb-true, eqb-false, eq-eqb, ne-eqb, ltb-true, lt-ltb, not-true}
 use Rattle.model.proofs.Basics.{not-false}
-use Rattle.model.specs.{Answer.Answer, isBetween, down, anyBelow, sumBelow, kind1, fieldWidth, bytesBefore, entryBytes, lineAt}
+use Rattle.model.specs.{Answer.Answer, isBetween, anyBelow, bit, essential, load, lightList, kind1, fieldWidth, bytesBefore, entryBytes, lineAt}
 use Rattle.model.specs.{lineBody, lineOffset, entries, bodyAt, fieldAt, decodeBy, layoutOf, decode, tooShort, wrongKind, wrongEntries}
 use Rattle.model.specs.{someWrongEntries, wrongLine, wrongLength, wrongPlaces, outOfRange, lacksDoor, someLacksDoor, tooLight}
 use Rattle.model.specs.{sheetTests, unlessFault, readSheet, numberAt, signed, refused, accepted, Test, Plan, planCost, cheapest}
 use Rattle.model.specs.{cellsNeeded, fewCells, roomTests, orNoOrder, planFor, carriedOut, plan, shortRoom}
 use Rattle.model.specs.Figures.{tasksStated, pointsStated, StandsAt, Between, RightEntries, RightPlaces, RightRanges, SheetApplies}
-use Rattle.model.specs.Figures.{is10, is11, is12, is13, is14, is15, is16, is17, PlanningApplies, AnswersBy}
+use Rattle.model.specs.Figures.{is10, is11, is12, is13, is14, is15, is16, is17, HasTask, BelowZero, PlanningApplies, sheetOrder, planningOrder, AnswersBy}
 use Rattle.model.proofs.Tools.Refusing.{refused≢accepted, refused-number, Applies, refuse-append, pass-append, applies-append}
-use Rattle.model.proofs.Tools.Refusing.{Rising, answers-by}
+use Rattle.model.proofs.Tools.Refusing.{answers-by}
 use Rattle.model.proofs.Tools.Tests.{or-left, or-right, between-is, all-at, all-below, none-at, any-true, one-passes, passes-unless}
-use Rattle.model.proofs.{Theory.Loads.light-is, Theory.Enumerations.no-order-iff, Bytes.Ranges.in-range, Bytes.Ranges.least-counts}
+use Rattle.model.proofs.Tools.Tests.{and-left, and-right, and-both}
+use Rattle.model.proofs.{Theory.Loads.ups, Theory.Loads.downs, Theory.Loads.load-negative, Theory.Meanings.essential-means, Theory.Enumerations.no-order-iff, Bytes.Ranges.in-range, Bytes.Ranges.least-counts}
 use Rattle.model.proofs.{Bytes.Ranges.range-passes, Bytes.Entries.entries-within, Bytes.PlanBytes.length-is, Calls.Reading.all-reads}
 use Rattle.model.proofs.{Calls.Planning.has-plan, Calls.Passing.end-between, Calls.Passing.right-line}
 
@@ -134,8 +135,30 @@ module _ (b : List ℕ) where
     (λ h. any-true (decode b .tasks) (lacksDoor (decode b)) (h .0) (h .1) (all-below (decode b .doors) _ (λ d l. ap not (ne-eqb _ _ (h .2 d l))))),
   )
 
-  too-light : (tooLight (decode b) ≡ true) ↔ (decode b .endLoad < sumBelow (decode b .tasks) (λ t. down (decode b .change t)))
-  too-light = ((λ h. ltb-true _ _ (sym (light-is (decode b)) ∙ h)), (λ h. light-is (decode b) ∙ lt-ltb _ _ h))
+  -- 16 by a list and its load
+  below-zero : (K : ℕ) → ltZ (load (decode b) K) (pos 0) ≡ true ↔ BelowZero (decode b) K
+  unfolding ups downs bit
+  below-zero K = rw (load-negative (decode b) K) (ltb-true _ _, lt-ltb _ _)
+
+  too-light : (tooLight (decode b) ≡ true)
+      ↔ ((K : ℕ) × (1 ≤ K) × (K < 2 ^ decode b .tasks)
+      × ((i : ℕ) → i < decode b .pairs → HasTask K (decode b .sender i) → HasTask K (decode b .receiver i)) × BelowZero (decode b) K)
+  unfolding tooLight lightList bit
+  too-light = (
+    (λ h. let r = one-passes (2 ^ decode b .tasks) (lightList (decode b)) h in
+        let K : ℕ = r .0 in
+        let e = essential-means (decode b) K .0 (and-left (essential (decode b) K) _ (r .2)) in (
+          K,
+          omega (arith, e .0),
+          r .1,
+          (λ i l m. eqb-true _ 1 (e .1 i l (eq-eqb _ 1 m))),
+          below-zero K .0 (and-right (essential (decode b) K) _ (r .2)),
+        )),
+    (λ h. let K : ℕ = h .0 in
+        any-true (2 ^ decode b .tasks) (lightList (decode b)) K (h .2) (and-both
+        (essential-means (decode b) K .1 ((λ z. omega (arith, h .1)), λ i l m. eq-eqb _ 1 (h .3 i l (eqb-true _ 1 m))))
+        (below-zero K .1 (h .4)))),
+  )
 
   -- each of the sheet's tests applies exactly where its number does
   pub sheet-applies : (r : ℕ) → Applies (sheetTests b) r ↔ SheetApplies b r
@@ -149,8 +172,8 @@ module _ (b : List ℕ) where
       there (inr (inr (inr (inl h)))) = is13 (h .0) (passes-unless _ right-places .0 (h .1))
       there (inr (inr (inr (inr (inl h))))) = is14 (h .0) (passes-unless _ right-ranges .0 (h .1))
       there (inr (inr (inr (inr (inr (inl h)))))) = let n = no-door .0 (h .1) in is15 (h .0) (n .0) (n .1) (n .2)
-      there (inr (inr (inr (inr (inr (inr (inl h))))))) = is16 (h .0) (too-light .0 (h .1))
-      there (inr (inr (inr (inr (inr (inr (inr (inl h)))))))) = is17 (h .0) (no-order-iff (decode b) .0 (h .1))
+      there (inr (inr (inr (inr (inr (inr (inl h))))))) = is17 (h .0) (no-order-iff (decode b) .0 (h .1))
+      there (inr (inr (inr (inr (inr (inr (inr (inl h)))))))) = let k = too-light .0 (h .1) in is16 (h .0) (k .0) (k .1) (k .2) (k .3) (k .4)
       there (inr (inr (inr (inr (inr (inr (inr (inr h)))))))) = absurd h
 
       back : SheetApplies b r → Applies (sheetTests b) r
@@ -160,8 +183,8 @@ module _ (b : List ℕ) where
       back (is13 e h) = inr (inr (inr (inl (e, passes-unless _ right-places .1 h))))
       back (is14 e h) = inr (inr (inr (inr (inl (e, passes-unless _ right-ranges .1 h)))))
       back (is15 e t l h) = inr (inr (inr (inr (inr (inl (e, no-door .1 (t, l, h)))))))
-      back (is16 e h) = inr (inr (inr (inr (inr (inr (inl (e, too-light .1 h)))))))
-      back (is17 e h) = inr (inr (inr (inr (inr (inr (inr (inl (e, no-order-iff (decode b) .1 h))))))))
+      back (is17 e h) = inr (inr (inr (inr (inr (inr (inl (e, no-order-iff (decode b) .1 h)))))))
+      back (is16 e K k l h m) = inr (inr (inr (inr (inr (inr (inr (inl (e, too-light .1 (K, k, l, h, m)))))))))
 
 -- the lengths of sheets
 pub lengths-between : (b : List ℕ) → RightEntries b → RightPlaces b → Between 66 9638 (length b)
@@ -171,15 +194,11 @@ lengths-between b h k =
     (omega (arith, k .ends, e .0), omega (arith, k .ends, e .1))
 
 -- reading is refused with each of its numbers, and accepts, exactly where document 01 says so
-pub reading-answers : (b : List ℕ) → AnswersBy (SheetApplies b) (readSheet b)
+pub reading-answers : (b : List ℕ) → AnswersBy sheetOrder (SheetApplies b) (readSheet b)
 unfolding readSheet unlessFault sheetTests
-reading-answers b = answers-by (sheetTests b) _ (SheetApplies b) (omega arith) (λ p. (_, refl)) (λ r n. sheet-applies b r)
+reading-answers b = answers-by sheetOrder (sheetTests b) _ (SheetApplies b) refl (λ p. (_, refl)) (λ r n. sheet-applies b r)
 
 -- ---- planning
-
-pub rising-sheet : (b : List ℕ) (us : List Test) → Rising 17 us → Rising 0 (sheetTests b ++ us)
-unfolding sheetTests
-rising-sheet b us h = (lit< tt, (lit< tt, (lit< tt, (lit< tt, (lit< tt, (lit< tt, (lit< tt, (lit< tt, h))))))))
 
 -- 21, and so for writing a plan
 pub short-room : (n room : ℕ) → (shortRoom n room ≡ true) ↔ (room < 32 + 2 * n)
@@ -213,20 +232,20 @@ module _ (b : List ℕ) (cells room : ℕ) where
       back (PlanningApplies.is20 e h) = inr (inl (e, few-cells .1 h))
       back (PlanningApplies.is21 e h) = inr (inr (inl (e, short-plan .1 h)))
 
-  plan-answers : AnswersBy (PlanningApplies b cells room) (planFor b cells room)
-  unfolding planFor unlessFault roomTests
+  plan-answers : AnswersBy planningOrder (PlanningApplies b cells room) (planFor b cells room)
+  unfolding planFor unlessFault sheetTests roomTests
   plan-answers = rw (refuse-append (sheetTests b) (roomTests (decode b) cells room) (orNoOrder (cheapest (decode b))))
-      (answers-by (sheetTests b ++ roomTests (decode b) cells room) _ (PlanningApplies b cells room) (rising-sheet b _ (omega arith))
+      (answers-by planningOrder (sheetTests b ++ roomTests (decode b) cells room) _ (PlanningApplies b cells room) refl
       (λ p. let x = has-plan b (all-reads b (pass-append (sheetTests b) (roomTests (decode b) cells room) p .0)) in (x .0, ap orNoOrder (x .1)))
       (λ r n. planning-applies r))
 
 -- planning answers as its plan does
-pub planning-answers : (b cells buffer : List ℕ) → AnswersBy (PlanningApplies b (length cells) (length buffer)) (plan b cells buffer .answer)
+pub planning-answers : (b cells buffer : List ℕ) → AnswersBy planningOrder (PlanningApplies b (length cells) (length buffer)) (plan b cells buffer .answer)
 unfolding plan
 planning-answers b cells buffer = go (planFor b (length cells) (length buffer)) (plan-answers b (length cells) (length buffer))
   where
-    go : (a : Answer Plan) → AnswersBy (PlanningApplies b (length cells) (length buffer)) a
-        → AnswersBy (PlanningApplies b (length cells) (length buffer)) (carriedOut (decode b) a cells buffer .answer)
+    go : (a : Answer Plan) → AnswersBy planningOrder (PlanningApplies b (length cells) (length buffer)) a
+        → AnswersBy planningOrder (PlanningApplies b (length cells) (length buffer)) (carriedOut (decode b) a cells buffer .answer)
     go (refused n) h = record {
       refuses = λ r. ((λ e. h .refuses r .0 (ap refused (refused-number e))), (λ k. ap refused (refused-number (h .refuses r .1 k))));
       accepts = ((λ x. absurd (refused≢accepted (x .1))), (λ k. absurd (refused≢accepted (h .accepts .1 k .1))));

@@ -1,9 +1,9 @@
 -- The three demands as the C interface shows them: by what a call returns and by what it leaves in the places that it was lent. A call that returns 0
 -- accepted, and one that returns another number was refused with it. Assumes nothing.
-use Rattle.model.proofs.Basics.{_≡_, refl, sym, ap, _∙_, List, ℕ, arith, length}
-use Rattle.model.specs.{Figures.AnswersBy, Figures.PlanningApplies, Answer.Answer, accepted, status, placed, decode, readSheet}
+use Rattle.model.proofs.Basics.{_≡_, refl, sym, ap, _∙_, _↔_, List, ℕ, _<_, arith, length}
+use Rattle.model.specs.{Figures.AnswersBy, Figures.PlanningApplies, Answer.Answer, refused, accepted, status, placed, decode, readSheet}
 use Rattle.model.specs.{maxPlanDoors, writePlan, readPlan, validate, plan, placedNumber}
-use Rattle.model.specs.Demands.{Lent, Cheapest, Demand3, Demand1Returned, Demand2Returned, Demand3Returned}
+use Rattle.model.specs.Demands.{Lent, Cheapest, Demand3, Demand1Returned, Demand2Returned, CheapestReturned, Demand3Returned}
 use Rattle.model.proofs.Tools.Refusing.{returned, returned-refusal}
 use Rattle.model.proofs.Calls.{Figures.reading-answers, Figures.planning-answers, Demands.demand-1, Demands.demand-2}
 use Rattle.model.proofs.Calls.{Demands.demand-3, Room.gets-20, Room.gets-21, Room.gets-0, Reading.Reads, Reading.accepted-reads}
@@ -12,7 +12,7 @@ use Rattle.model.proofs.{Bytes.PlanBytes.read-with, Calls.PlanFigures.p
 -- ---- what is returned
 
 -- a call whose numbers are above 0 accepted where it returned 0
-returned-accepted : {A : Type 0} {applies : ℕ → Type 0} {a : Answer A} → AnswersBy applies a → status a ≡ 0 → (x : A) × (a ≡ accepted x)
+returned-accepted : {A : Type 0} {order : List ℕ} {applies : ℕ → Type 0} {a : Answer A} → AnswersBy order applies a → status a ≡ 0 → (x : A) × (a ≡ accepted x)
 returned-accepted h e = h .accepts .1 (h .returns-0 .0 e)
 
 -- ---- demand 1
@@ -83,20 +83,23 @@ pub demand-3-returned : (b cells buffer : List ℕ) (before : ℕ) → Lent b ce
 demand-3-returned b cells buffer before L =
     let D : Demand3 b cells buffer = demand-3 b cells buffer L in
     record {
-      reading-refuses-iff = (
-        (λ e. D .reading-refuses-iff .0 (returned-refusal (readSheet b) 17 (omega arith) e)),
-        (λ h. ap status (D .reading-refuses-iff .1 h)),
-      );
-      refuses-iff = (
-        (λ e. D .refuses-iff .0 (returned-refusal (plan b cells buffer .answer) 17 (omega arith) e)),
-        (λ h. ap status (D .refuses-iff .1 h)),
-      );
-      otherwise = λ n. let C : Cheapest b cells buffer = D .otherwise (λ e. n (ap status e)) in record {
-        returns = ap status (C .answered);
-        leaves = C;
-        cost-left = ap (λ (x : Answer ℕ). placedNumber x before) (C .answered);
-        read-back = λ start doors c here.
-            let r = read-with (decode b .tasks) maxPlanDoors _ (C .written) (C .reads-as) (length doors) here in
-            rw (r .1) (refl, r .2, r .3, r .4);
-      };
+      reading-refuses-17-iff = by-status (readSheet b) 17 (omega arith) (D .reading-refuses-17-iff);
+      refuses-17-iff = by-status (plan b cells buffer .answer) 17 (omega arith) (D .refuses-17-iff);
+      reading-refuses-16-iff = by-status (readSheet b) 16 (omega arith) (D .reading-refuses-16-iff);
+      refuses-16-iff = by-status (plan b cells buffer .answer) 16 (omega arith) (D .refuses-16-iff);
+      planned = λ o l. returns-plan (D .planned o l);
+      otherwise = λ n m. returns-plan (D .otherwise (λ e. n (ap status e)) (λ e. m (ap status e)));
+    }
+  where
+    by-status : {A P : Type 0} (a : Answer A) (r : ℕ) → 0 < r → (a ≡ refused r) ↔ P → (status a ≡ r) ↔ P
+    by-status a r l h = ((λ e. h .0 (returned-refusal a r l e)), (λ p. ap status (h .1 p)))
+
+    returns-plan : Cheapest b cells buffer → CheapestReturned b cells buffer before
+    returns-plan C = record {
+      returns = ap status (C .answered);
+      leaves = C;
+      cost-left = ap (λ (x : Answer ℕ). placedNumber x before) (C .answered);
+      read-back = λ start doors c here.
+          let r = read-with (decode b .tasks) maxPlanDoors _ (C .written) (C .reads-as) (length doors) here in
+          rw (r .1) (refl, r .2, r .3, r .4);
     }

@@ -1,20 +1,20 @@
 -- Validating is refused with each of its numbers, and accepts, exactly where document 01 says so. What a task done twice and a receiver before
 -- its sender mean in places needs what the numbers before have tested: the doors are the sheet's, and then each task is done once. Assumes nothing.
-use Rattle.model.proofs.Basics.{_≡_, refl, sym, ap, _∙_, _≢_, _⊎_, inl, inr, ⊎-elim, _↔_, Bool, true, false, not, List, _++_, map, ℕ}
+use Rattle.model.proofs.Basics.{_≡_, refl, sym, ap, _∙_, _≢_, _⊎_, inl, inr, ⊎-elim, _↔_, Bool, true, false, not, List, [], _∷_, _++_, map, ℕ}
 use Rattle.model.proofs.Basics.{_≤_, _<_, arith, ltb, leb, length, getD, length-map, eqb-false, ne-eqb, ltb-true, ltb-false, lt-ltb}
 use Rattle.model.proofs.Basics.{leb-true, leb-false, le-leb, not-true, not-false}
 use Rattle.model.specs.{Sheet.Sheet, InRange, full, notInSheet, doneTwice, breaksPair, wrongCost, routeTests, planTests, validate}
 use Rattle.model.specs.{mapBelow, countOf, indexOf, inSheet, isOrder, keepsPair, keepsEveryPair, isAdmissible, noOrder, accepted}
 use Rattle.model.specs.{Test, planStartAt, planDoorsAt, planCostAt, illFormed, startIn, doorIn, doorsIn, costIn, lineAt, entries}
 use Rattle.model.specs.{decodeBy, layoutOf, decode, sheetTests, unlessFault}
-use Rattle.model.specs.Figures.{tasksStated, doorsStated, LaidOut, startStated, doorStated, ValidatingApplies, AnswersBy, FiguresHold}
+use Rattle.model.specs.Figures.{tasksStated, doorsStated, LaidOut, startStated, doorStated, ValidatingApplies, validatingOrder, Before, AnswersBy, FiguresHold}
 use Rattle.model.proofs.Tools.Tests.{not-both, and-right, or-right, all-at, all-false, one-fails, none-at, any-true, one-passes}
 use Rattle.model.proofs.Tools.Tests.{passes-unless, by-test}
 use Rattle.model.proofs.Tools.Positions.{StandsIn, counted-twice, stands-twice, index-stands, index-first, fails-somewhere, map-at}
-use Rattle.model.proofs.Tools.Refusing.{Applies, refuse-append, applies-append, pass-none, answers-by}
-use Rattle.model.proofs.Calls.Figures.{stands-at, sheet-applies, lengths-between, reading-answers, rising-sheet, planning-answers}
+use Rattle.model.proofs.Tools.Refusing.{Applies, refuse-append, applies-append, applies-before, pass-none, answers-by}
+use Rattle.model.proofs.Calls.Figures.{stands-at, sheet-applies, lengths-between, reading-answers, planning-answers}
 use Rattle.model.proofs.Calls.PlanFigures.{writing-answers, well-formed, plan-reading-answers, writing-twelve, reading-twelve}
-use Rattle.model.proofs.Calls.Reading.{Reads, all-reads, counts-read, sheet-within}
+use Rattle.model.proofs.Calls.Reading.{Reads, all-reads, counts-read}
 use Rattle.model.proofs.{Tools.Folds.length-mapBelow, Tools.Folds.mapBelow-at, Tools.Elements.in-at, TaskLists.Masks.full-bit}
 use Rattle.model.proofs.{TaskLists.Counting.order-count, TaskLists.Counting.order-of-all, Theory.Enumerations.has-order}
 use Rattle.model.proofs.{Bytes.Ranges.in-range, Calls.Validating.tasks-below, Calls.Printing.cut-input}
@@ -160,44 +160,51 @@ module _ (b q : List ℕ) where
   both = sheetTests b ++ own
 
   -- what the numbers before r have tested
-  module _ (r : ℕ) (lower : (n : ℕ) → n < r → Applies both n → ⊥) where
-    earlier : (n : ℕ) (t : Bool) → n < r → (t ≡ true → Applies own n) → t ≡ false
+  module _ (r : ℕ) (lower : (n : ℕ) → Before validatingOrder n r → Applies both n → ⊥) where
+    earlier : (n : ℕ) (t : Bool) → Before validatingOrder n r → (t ≡ true → Applies own n) → t ≡ false
     earlier n t l k = by-test t
         (λ w. absurd (lower n l (applies-append (sheetTests b) own n .1 (inr (k w)))))
         (λ w. w)
 
-    reads : 17 < r → Reads b
-    reads l = all-reads b (pass-none (sheetTests b) (λ n h. lower n (omega (arith, sheet-within b n h .1)) (applies-append (sheetTests b) own n .1 (inl h))))
+    -- the sheet's own numbers stand in front
+    reads : Before validatingOrder 16 r → Reads b
+    unfolding sheetTests
+    reads l = all-reads b (pass-none (sheetTests b) (λ n h.
+        lower n (omega (arith, applies-before (sheetTests b) (30 ∷ 31 ∷ 32 ∷ 33 ∷ 34 ∷ []) n h)) (applies-append (sheetTests b) own n .1 (inl h))))
 
-    formed : 17 < r → (illFormed (S .tasks) q ≡ true) ↔ (LaidOut N q → ⊥)
+    formed : Before validatingOrder 16 r → (illFormed (S .tasks) q ≡ true) ↔ (LaidOut N q → ⊥)
     unfolding decode decodeBy entries lineAt
     formed l = passes-unless _ (well-formed N q (counts-read b (reads l) .tasks))
 
-    inside : 31 < r → notInSheet S (startIn q) (doorsIn (S .tasks) q) ≡ false
+    inside : Before validatingOrder 31 r → notInSheet S (startIn q) (doorsIn (S .tasks) q) ≡ false
     unfolding planTests routeTests
     inside l = earlier 31 _ l (λ w. inr (inl (refl, w)))
 
-    once : 32 < r → doneTwice S (map (S .task) (doorsIn (S .tasks) q)) ≡ false
+    once : Before validatingOrder 32 r → doneTwice S (map (S .task) (doorsIn (S .tasks) q)) ≡ false
     unfolding planTests routeTests
     once l = earlier 32 _ l (λ w. inr (inr (inl (refl, w))))
 
-    ranges : 17 < r → InRange S
+    ranges : Before validatingOrder 16 r → InRange S
     ranges l = in-range (layoutOf b) S (reads l .passed-tests .ranges)
+
+    -- r is m, before which n is tested
+    after : (n : ℕ) {m : ℕ} → r ≡ m → ltb (indexOf n validatingOrder) (indexOf m validatingOrder) ≡ true → Before validatingOrder n r
+    after n e l = rw e (ltb-true _ _ l)
 
     plan-applies : Applies own r → ValidatingApplies b q r
     unfolding planTests routeTests doorsIn wrongCost decode decodeBy entries lineAt startIn doorIn costIn planStartAt planDoorsAt planCostAt
-    plan-applies (inl h) = ValidatingApplies.is30 (h .0) (formed (omega (arith, h .0)) .0 (h .1))
+    plan-applies (inl h) = ValidatingApplies.is30 (h .0) (formed (after 16 (h .0) refl) .0 (h .1))
     plan-applies (inr (inl h)) = ⊎-elim
         (ValidatingApplies.start31 (h .0))
         (λ (w : (i : ℕ) × (i < N) × (doorsStated b ≤ doorAt i)). ValidatingApplies.door31 (h .0) (w .0) (w .1) (w .2))
         (not-in S N doorAt start .0 (h .1))
     plan-applies (inr (inr (inl h))) =
-        let l : 31 < r = omega (arith, h .0) in
-        let w = twice S N doorAt refl (ranges (omega arith)) start (inside l) .0 (h .1) in
+        let w = twice S N doorAt refl (ranges (after 16 (h .0) refl)) start (inside (after 31 (h .0) refl)) .0 (h .1) in
         ValidatingApplies.is32 (h .0) (w .0) (w .1) (w .2) (w .3) (w .4)
     plan-applies (inr (inr (inr (inl h)))) =
-        let l : 32 < r = omega (arith, h .0) in
-        let w = breaks S N doorAt refl (ranges (omega arith)) start (inside (omega arith)) (once l) (reads (omega arith) .ordered) .0 (h .1) in
+        let e : r ≡ 33 = h .0 in
+        let w = breaks S N doorAt refl (ranges (after 16 e refl)) start (inside (after 31 e refl)) (once (after 32 e refl))
+        (reads (after 16 e refl) .ordered) .0 (h .1) in
         ValidatingApplies.is33 (h .0) (w .0) (w .1) (w .2) (w .3) (w .4) (w .5) (w .6) (w .7)
     plan-applies (inr (inr (inr (inr (inl h))))) = ValidatingApplies.is34 (h .0) (eqb-false _ _ (not-true _ (h .1)))
     plan-applies (inr (inr (inr (inr (inr h))))) = absurd h
@@ -205,15 +212,15 @@ module _ (b q : List ℕ) where
     applies-plan : ValidatingApplies b q r → Applies (sheetTests b) r ⊎ Applies own r
     unfolding planTests routeTests doorsIn wrongCost decode decodeBy entries lineAt startIn doorIn costIn planStartAt planDoorsAt planCostAt
     applies-plan (ValidatingApplies.sheet h) = inl (sheet-applies b r .1 h)
-    applies-plan (ValidatingApplies.is30 e h) = inr (inl (e, formed (omega arith) .1 h))
+    applies-plan (ValidatingApplies.is30 e h) = inr (inl (e, formed (after 16 e refl) .1 h))
     applies-plan (ValidatingApplies.start31 e h) = inr (inr (inl (e, not-in S N doorAt start .1 (inl h))))
     applies-plan (ValidatingApplies.door31 e i l h) = inr (inr (inl (e, not-in S N doorAt start .1 (inr (i, l, h)))))
     applies-plan (ValidatingApplies.is32 e i j l m h) =
-        inr (inr (inr (inl (e, twice S N doorAt refl (ranges (omega arith)) start (inside (omega arith)) .1 (i, j, l, m, h)))))
+        inr (inr (inr (inl (e, twice S N doorAt refl (ranges (after 16 e refl)) start (inside (after 31 e refl)) .1 (i, j, l, m, h)))))
     applies-plan (ValidatingApplies.is33 e p i j k l m h g) =
         inr (inr (inr (inr (inl (
           e,
-          breaks S N doorAt refl (ranges (omega arith)) start (inside (omega arith)) (once (omega arith)) (reads (omega arith) .ordered)
+          breaks S N doorAt refl (ranges (after 16 e refl)) start (inside (after 31 e refl)) (once (after 32 e refl)) (reads (after 16 e refl) .ordered)
               .1 (p, i, j, k, l, m, h, g),
         )))))
     applies-plan (ValidatingApplies.is34 e h) = inr (inr (inr (inr (inr (inl (e, ap not (ne-eqb _ _ h)))))))
@@ -224,10 +231,10 @@ module _ (b q : List ℕ) where
       (λ h. applies-append (sheetTests b) own r .1 (applies-plan h)),
     )
 
-  pub validating-answers : AnswersBy (ValidatingApplies b q) (validate b q)
-  unfolding validate unlessFault planTests routeTests
+  pub validating-answers : AnswersBy validatingOrder (ValidatingApplies b q) (validate b q)
+  unfolding validate unlessFault sheetTests planTests routeTests
   validating-answers = rw (refuse-append (sheetTests b) own (accepted (costIn (S .tasks) q)))
-      (answers-by both _ (ValidatingApplies b q) (rising-sheet b _ (omega arith)) (λ p. (_, refl)) validating-applies)
+      (answers-by validatingOrder both _ (ValidatingApplies b q) refl (λ p. (_, refl)) validating-applies)
 
 -- ---- all of document 01's figures
 pub figures : FiguresHold

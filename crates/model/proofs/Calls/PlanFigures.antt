@@ -1,11 +1,11 @@
 -- Writing and reading a plan are refused with each of their numbers, and accept, exactly where document 01 says so. Assumes nothing.
 use Rattle.model.proofs.Basics.{_≡_, refl, sym, ap, ap₂, _∙_, _≢_, _⊎_, inl, inr, ⊎-elim, _↔_, Bool, true, false, not, true≢false}
-use Rattle.model.proofs.Basics.{List, [], _∷_, ℕ, _+_, _*_, _/_, _%_, _≤_, _<_, arith, eqb, ltb, length, eqb-true, eq-eqb, ltb-true}
+use Rattle.model.proofs.Basics.{List, [], _∷_, ℕ, _+_, _*_, _/_, _%_, _≤_, _<_, arith, eqb, ltb, lit<, length, eqb-true, eq-eqb, ltb-true}
 use Rattle.model.proofs.Basics.{ltb-false, not-false}
 use Rattle.model.specs.{PlanRead, shortRoom, accepted, refuseFirst, _when_, sameList, lineAt, bytesOf, refused, planStartAt}
 use Rattle.model.specs.{planDoorsAt, planCostAt, planLength, lineBytes, planHead, wrongTasks, writeTests, writeAnswer, writePlan}
 use Rattle.model.specs.{wrongHead, illFormed, readTests, readPlan}
-use Rattle.model.specs.Figures.{Between, LaidOut, WritingApplies, ReadingPlanApplies, AnswersBy}
+use Rattle.model.specs.Figures.{Between, LaidOut, WritingApplies, ReadingPlanApplies, writingOrder, readingPlanOrder, Before, AnswersBy}
 use Rattle.model.proofs.Tools.Refusing.{Applies, answers-by, refused-number, refused≢accepted}
 use Rattle.model.proofs.Tools.Tests.{not-both, or-left, or-right, or-neither, passes-unless, same-list, list-same, by-test}
 use Rattle.model.proofs.{Bytes.PlanBytes.length-is, Bytes.PlanBytes.tasks-fit, Bytes.PlanBytes.fitting, Calls.Figures.short-room}
@@ -38,9 +38,9 @@ writing-applies n lent room r = (there, back)
     back (WritingApplies.is21 e h) = inr (inl (e, short-room n room .1 h))
 
 pub writing-answers : (n start : ℕ) (doors : List ℕ) (c : ℕ) (buffer : List ℕ)
-    → AnswersBy (WritingApplies n (length doors) (length buffer)) (writePlan n start doors c buffer .answer)
+    → AnswersBy writingOrder (WritingApplies n (length doors) (length buffer)) (writePlan n start doors c buffer .answer)
 unfolding writePlan writeAnswer writeTests
-writing-answers n start doors c buffer = answers-by (writeTests n (length doors) (length buffer)) _ _ (omega arith) (λ p. (_, refl))
+writing-answers n start doors c buffer = answers-by writingOrder (writeTests n (length doors) (length buffer)) _ _ refl (λ p. (_, refl))
     (λ r k. writing-applies n (length doors) (length buffer) r)
 
 -- the head of a plan, byte by byte
@@ -66,14 +66,14 @@ well-formed n q few = (
       (ap not (ap₂ sameList (h .1 ∙ sym (head-is n few)) refl ∙ list-same (planHead n)))),
 )
 
-reading-applies : (n lent : ℕ) (q : List ℕ) (r : ℕ) → ((k : ℕ) → k < r → Applies (readTests n lent q) k → ⊥)
+reading-applies : (n lent : ℕ) (q : List ℕ) (r : ℕ) → ((k : ℕ) → Before readingPlanOrder k r → Applies (readTests n lent q) k → ⊥)
     → Applies (readTests n lent q) r ↔ ReadingPlanApplies n lent q r
 unfolding readTests
 reading-applies n lent q r lower = (there, back)
   where
     -- 12 does not apply where 30 is asked for
     few : r ≡ 30 → n ≤ 12
-    few e = by-test (wrongTasks n lent) (λ w. absurd (lower 12 (omega arith) (inl (refl, w)))) (λ w. fitting n lent w .1)
+    few e = by-test (wrongTasks n lent) (λ w. absurd (lower 12 (rw e (lit< tt)) (inl (refl, w)))) (λ w. fitting n lent w .1)
 
     there : Applies (readTests n lent q) r → ReadingPlanApplies n lent q r
     there (inl h) = ⊎-elim (ReadingPlanApplies.tasks12 (h .0)) (ReadingPlanApplies.lent12 (h .0)) (wrong-tasks n lent .0 (h .1))
@@ -85,9 +85,9 @@ reading-applies n lent q r lower = (there, back)
     back (ReadingPlanApplies.lent12 e h) = inl (e, wrong-tasks n lent .1 (inr h))
     back (ReadingPlanApplies.is30 e h) = inr (inl (e, passes-unless _ (well-formed n q (few e)) .1 h))
 
-pub plan-reading-answers : (n lent : ℕ) (q : List ℕ) → AnswersBy (ReadingPlanApplies n lent q) (readPlan n lent q)
+pub plan-reading-answers : (n lent : ℕ) (q : List ℕ) → AnswersBy readingPlanOrder (ReadingPlanApplies n lent q) (readPlan n lent q)
 unfolding readPlan readTests
-plan-reading-answers n lent q = answers-by (readTests n lent q) _ _ (omega arith) (λ p. (_, refl)) (reading-applies n lent q)
+plan-reading-answers n lent q = answers-by readingPlanOrder (readTests n lent q) _ _ refl (λ p. (_, refl)) (reading-applies n lent q)
 
 -- ---- with twelve doors lent, as document 01 has it, 12 is for N outside 1 to 12 alone
 

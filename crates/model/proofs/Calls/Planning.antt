@@ -3,10 +3,10 @@ use Rattle.model.proofs.Basics.{_≡_, sym, ap, _∙_, _⊎_, inl, inr,
 use Rattle.model.proofs.Basics.{_/_, _^_, _≤_, _<_, le-div-iff-mul-le, arith, ltb, length, getD, List·getD-eq-default, ltb-true}
 use Rattle.model.proofs.Basics.{ltb-false, lt-ltb, le-ltb, digits-div, digits-mod}
 use Rattle.model.specs.{Sheet.Sheet, Answer.Answer, noOrder, pairsAllow, Plan, cheapest, costToGo, refused, accepted, refuseIf}
-use Rattle.model.specs.{layoutOf, decode, planLength, shortRoom, tooLight, cellsNeeded, fewCells, roomTests, orNoOrder, planFor}
-use Rattle.model.specs.{cellAfter, cellsAfter, carriedOut, plan, full, Plannable}
+use Rattle.model.specs.{layoutOf, decode, planLength, shortRoom, cellsNeeded, fewCells, roomTests, orNoOrder, planFor}
+use Rattle.model.specs.{cellAfter, cellsAfter, carriedOut, plan, full, Plannable, unlessFault}
 use Rattle.model.proofs.Tools.Refusing.{refused≢accepted, refused-number, accepted-value, accepted-pass}
-use Rattle.model.proofs.Calls.Reading.{Cleared, Reads, light-then, counts-read, accepted-reads, refused-reads}
+use Rattle.model.proofs.Calls.Reading.{Reads, reads-then, counts-read, accepted-reads, refused-reads}
 use Rattle.model.proofs.{Tools.Folds.length-mapBelow, Tools.Folds.mapBelow-at, Tools.Tests.by-test, Theory.Cheapest.cheapest-some}
 use Rattle.model.proofs.{Theory.Driving.has-completion, Theory.Starts.solution-completes, Bytes.Ranges.in-range, Bytes.Ranges.served}
 
@@ -42,11 +42,11 @@ module _ (S : Sheet) (cells : List ℕ) where
 
 -- ---- the answer
 
--- with room for the cells and for the bytes, there is a plan or no order
-pub plan-for : (b : List ℕ) (cells room : ℕ) → Cleared b → tooLight (decode b) ≡ false → cellsNeeded (decode b) ≤ cells → planLength (decode b .tasks) ≤ room
-    → planFor b cells room ≡ refuseIf (noOrder (decode b)) 17 (orNoOrder (cheapest (decode b)))
+-- with room for the cells and for the bytes, the sheet's own numbers are left
+pub plan-for : (b : List ℕ) (cells room : ℕ) → cellsNeeded (decode b) ≤ cells → planLength (decode b .tasks) ≤ room
+    → planFor b cells room ≡ unlessFault b (orNoOrder (cheapest (decode b)))
 unfolding planFor roomTests fewCells shortRoom
-plan-for b cells room h l c r = light-then b _ h l ∙ rw (le-ltb cells (cellsNeeded (decode b)) c, le-ltb room (planLength (decode b .tasks)) r)
+plan-for b cells room c r = rw (le-ltb cells (cellsNeeded (decode b)) c, le-ltb room (planLength (decode b .tasks)) r)
 
 -- a plan is carried out; a refusal leaves cells and buffer as they were
 pub planned : (b cells buffer : List ℕ) (x : Plan) → planFor b (length cells) (length buffer) ≡ accepted x

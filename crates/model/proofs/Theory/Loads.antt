@@ -1,15 +1,15 @@
--- The load over a list of tasks as a difference of natural numbers: not below zero where 16 does not apply, and how large it can be. Assumes nothing.
-use Rattle.model.proofs.Basics.{_≡_, refl, sym, ap, ap₂, _∙_, false, cond, ℕ, zero, suc, _+_, _-_, _*_, _≤_, _<_, le-trans, arith}
+-- The load over a list of tasks as a difference of natural numbers: when it is below zero, and how large it can be; 16, and the lightest list of all. Assumes nothing.
+use Rattle.model.proofs.Basics.{_≡_, refl, sym, ap, ap₂, _∙_, _↔_, true, false, true≢false, cond, ℕ, zero, suc, _+_, _-_, _*_, _^_}
+use Rattle.model.proofs.Basics.{_≤_, _<_, le-trans, arith}
 use Rattle.model.proofs.Basics.{ltb, T, ℤ, pos, negsuc, _+ℤ_, natAbs, subℕ, ltb-true, ltb-false, lt-ltb, le-ltb, ltZ, nonNeg}
-use Rattle.model.specs.{Sheet.Sheet, sumBelow, bit, member, loadBelow, load, lightestBelow, tooLight, down, Light, LoadsHold}
-use Rattle.model.proofs.{Tools.Folds.sum-le, Tools.Folds.sum-mono, Tools.Tests.by-test, TaskLists.Masks.by-bit}
+use Rattle.model.specs.{Sheet.Sheet, sumBelow, bit, member, essential, loadBelow, load, lightList, tooLight, LoadsHold, SomeTooLight}
+use Rattle.model.specs.{up, down, lightestBelow, lightestTooLight, LightestHolds}
+use Rattle.model.proofs.{Tools.Folds.sum-le, Tools.Folds.sum-mono, TaskLists.Masks.by-bit}
+use Rattle.model.proofs.Tools.Tests.{by-test, not-both, and-left, and-right, none-at, none-below, one-passes}
 
 -- ---- differences
 
--- an integer is `up z` less `down z`
-abbrev pub up : ℤ → ℕ
-up (pos n) = n
-up (negsuc n) = 0
+-- an integer z is `up z` less `down z`
 
 sub-pos : (a b : ℕ) → b ≤ a → subℕ a b ≡ pos (a - b)
 sub-pos a b h = rw le-ltb
@@ -87,7 +87,41 @@ load-magnitude S K = load-below-magnitude S K (S .tasks)
 
 -- ---- 16
 
--- the lightest load takes all away and adds nothing
+-- a number is below zero, or it is not
+not-negative : (z : ℤ) → (ltZ z (pos 0) ≡ false) ↔ T (nonNeg z)
+not-negative (pos n) = ((λ e. tt), (λ t. le-ltb n 0 (omega arith)))
+not-negative (negsuc n) = ((λ e. absurd (true≢false e)), (λ t. absurd t))
+
+-- a load is below zero where less is added than taken away
+pub load-negative : (S : Sheet) (K : ℕ) → ltZ (load S K) (pos 0) ≡ ltb (S .endLoad + ups S K (S .tasks)) (downs S K (S .tasks))
+unfolding load
+load-negative S K = ap (λ x. ltZ x (pos 0)) (load-over S K (S .tasks)) ∙ sub-negative (S .endLoad + ups S K (S .tasks)) (downs S K (S .tasks))
+
+-- 16 does not apply exactly where no essential list has a load below zero
+pub loads-hold : (S : Sheet) → tooLight S ≡ false → LoadsHold S
+unfolding tooLight lightList
+loads-hold S h K l e = not-negative (load S K) .0 (rw e at (none-at (2 ^ S .tasks) (lightList S) h K l))
+
+pub hold-passes : (S : Sheet) → LoadsHold S → tooLight S ≡ false
+unfolding tooLight lightList
+hold-passes S h = none-below (2 ^ S .tasks) (lightList S) (λ K l. by-test (essential S K)
+    (λ w. rw w (not-negative (load S K) .1 (h K l w)))
+    (λ w. rw w))
+
+-- and applies exactly where one has
+pub some-light : (S : Sheet) → tooLight S ≡ true → SomeTooLight S
+unfolding tooLight lightList
+some-light S h =
+    let r = one-passes (2 ^ S .tasks) (lightList S) h in
+    let K : ℕ = r .0 in
+    (K, r .1, and-left (essential S K) _ (r .2), λ n. not-both (and-right (essential S K) _ (r .2)) (not-negative (load S K) .1 n))
+
+pub light-some : (S : Sheet) → SomeTooLight S → tooLight S ≡ true
+light-some S h = by-test (tooLight S) (λ w. w) (λ w. absurd (h .3 (loads-hold S w (h .0) (h .1) (h .2))))
+
+-- ---- the lightest list of all
+
+-- it takes all away and adds nothing
 lightest-over : (S : Sheet) (n : ℕ) → lightestBelow S n ≡ subℕ (S .endLoad) (sumBelow n (λ j. down (S .change j)))
 lightest-over S zero = pos-sub (S .endLoad)
 lightest-over S (suc n) =
@@ -98,28 +132,19 @@ lightest-over S (suc n) =
     taken a b (pos u) = rw (le-ltb u 0 (omega arith)) (sub-add a b (pos 0) ∙ ap (λ x. subℕ x (b + 0)) (omega arith))
     taken a b (negsuc v) = sub-add a b (negsuc v) ∙ ap (λ x. subℕ x (b + suc v)) (omega arith)
 
--- 16 compares the two
-pub light-is : (S : Sheet) → tooLight S ≡ ltb (S .endLoad) (sumBelow (S .tasks) (λ j. down (S .change j)))
-unfolding tooLight
-light-is S = ap (λ x. ltZ x (pos 0)) (lightest-over S (S .tasks)) ∙ sub-negative (S .endLoad) _
+pub lightest-holds : (S : Sheet) → lightestTooLight S ≡ false → LightestHolds S
+unfolding lightestTooLight
+lightest-holds S h = ltb-false _ _ (sym (sub-negative (S .endLoad) _) ∙ sym (ap (λ x. ltZ x (pos 0)) (lightest-over S (S .tasks))) ∙ h)
 
--- which is what 16 asks
-pub light : (S : Sheet) → tooLight S ≡ false → Light S
-light S h = ltb-false _ _ (sym (light-is S) ∙ h)
-
-pub light-passes : (S : Sheet) → Light S → tooLight S ≡ false
-light-passes S h = light-is S ∙ le-ltb _ _ h
-
--- where 16 does not apply, the load is a natural number
-pub load-is : (S : Sheet) (K : ℕ) → Light S → load S K ≡ pos (S .endLoad + ups S K (S .tasks) - downs S K (S .tasks))
-unfolding load downs
-load-is S K h = load-over S K (S .tasks) ∙ sub-pos (S .endLoad + ups S K (S .tasks)) (downs S K (S .tasks))
+-- no list takes more away: where the lightest holds, every list's load is not below zero
+pub none-lighter : (S : Sheet) (K : ℕ) → LightestHolds S → ltZ (load S K) (pos 0) ≡ false
+unfolding downs
+none-lighter S K h = load-negative S K ∙ le-ltb (S .endLoad + ups S K (S .tasks)) (downs S K (S .tasks))
     (omega (arith, h, sum-mono (S .tasks) (λ j. bit K j * down (S .change j)) (λ j. down (S .change j)) (λ j l. once K j (down (S .change j)))))
 
--- where 16 does not apply, no list of tasks has a load below zero
-pub load-not-negative : (S : Sheet) (K : ℕ) → Light S → T (nonNeg (load S K))
-load-not-negative S K h = rw (load-is S K h) tt
-
--- so where 16 does not apply, the loads hold that costing asks for
-pub loads-hold : (S : Sheet) → Light S → LoadsHold S
-loads-hold S h K l e = load-not-negative S K h
+-- so a sheet that passes the old 16 passes the new one
+pub lightest-passes : (S : Sheet) → lightestTooLight S ≡ false → tooLight S ≡ false
+unfolding tooLight lightList
+lightest-passes S h = none-below (2 ^ S .tasks) (lightList S) (λ K l. by-test (essential S K)
+    (λ w. rw w (none-lighter S K (lightest-holds S h)))
+    (λ w. rw w))

@@ -2,16 +2,15 @@
 -- neither makes nor ends an order, and a pass strikes something off unless no task can come first. Assumes nothing.
 use Rattle.model.proofs.Basics.{_≡_, refl, sym, ap, _∙_, subst, _⊎_, inl, inr, ⊎-elim, _↔_, true, false, not, List, [], _∷_, ℕ, zero}
 use Rattle.model.proofs.Basics.{suc, _+_, _^_, _≤_, _<_, arith, eqb, eqb-true, eqb-false, ne-eqb, not-true}
-use Rattle.model.specs.{Sheet.Sheet, Answer.Answer, bit, without, full, size, isAdmissible, isOrderWithin, noOrder, maskBits}
-use Rattle.model.specs.{canComeFirst, strikeBelow, strikeOff, somethingLeft, refused, accepted, refuseIf, decode, tooLight, Counts}
-use Rattle.model.specs.{readSheet, InRange}
+use Rattle.model.specs.{Sheet.Sheet, bit, without, full, size, isAdmissible, isOrderWithin, noOrder, maskBits}
+use Rattle.model.specs.{canComeFirst, strikeBelow, strikeOff, somethingLeft}
+use Rattle.model.specs.{InRange}
 use Rattle.model.proofs.Tools.Tests.{same-test, not-both, and-both, by-test, by-last}
 use Rattle.model.proofs.TaskLists.Masks.{full-lt, without-same, without-other, without-le, size-none, size-without, size-zero}
 use Rattle.model.proofs.TaskLists.Masks.{size-full, full-of}
 use Rattle.model.proofs.Theory.FirstTask.{within-cons, first-bit, within-uncons, nil-size, size-nil}
 use Rattle.model.proofs.Theory.Existence.{part, part-within, admissible-is}
 use Rattle.model.proofs.Theory.Enumerations.{has-order, no-order-iff}
-use Rattle.model.proofs.{Tools.Refusing.refused≢accepted, Calls.Reading.Cleared, Calls.Reading.light-then}
 
 -- some order of K keeps the pairs within K
 abbrev pub HasOrder : Sheet → ℕ → Type 0
@@ -111,15 +110,3 @@ module _ (S : Sheet) (R : InRange S) where
   pub something-left : S .tasks < maskBits → noOrder S ≡ somethingLeft S
   unfolding somethingLeft
   something-left few = struck-off ∙ ap (λ (K : ℕ). not (eqb (strikeOff S (S .tasks) K) 0)) (sym (full-of (S .tasks) few))
-
--- a sheet that passes 10 to 16 is refused with 17 exactly where no order of the tasks keeps every pair
-pub gets-17 : (b : List ℕ) → Cleared b → tooLight (decode b) ≡ false → (readSheet b ≡ refused 17) ↔ ((ts : List ℕ) → isAdmissible (decode b) ts ≡ true → ⊥)
-unfolding readSheet
-gets-17 b h l = (
-  λ e. no-order-iff (decode b) .0 (by-test (noOrder (decode b)) (λ w. w) (λ w.
-      absurd (refused≢accepted (sym e ∙ light-then b counts h l ∙ ap (λ t. refuseIf t 17 counts) w)))),
-  λ k. light-then b counts h l ∙ ap (λ t. refuseIf t 17 counts) (no-order-iff (decode b) .1 k),
-)
-  where
-    counts : Answer Counts
-    counts = accepted (record { tasks = decode b .tasks; points = decode b .points })

@@ -1,4 +1,5 @@
--- Along a solution the pairs allow every list that is open: essential, with a load that holds, while a door is to come, and then empty. Assumes nothing.
+-- Along a solution, and along a completion of a list that the pairs allow, the pairs allow every list that is open: essential, with a load that holds, while a door is to
+-- come, and then empty. Assumes nothing.
 use Rattle.model.proofs.Basics.{_≡_, refl, sym, ap, _∙_, true, not, _&&_, List, [], _∷_, map, ℕ, zero, suc, _^_, _<_, arith, eqb}
 use Rattle.model.proofs.Basics.{ltb, T, length, drop, pow-pos, ne-eqb, ltb-true, nonNeg}
 use Rattle.model.specs.{Sheet.Sheet, bit, member, without, full, maskOf, isAdmissible, essential, pairsAllow, canComeFirst, load}
@@ -44,11 +45,20 @@ module _ (S : Sheet) (R : InRange S) where
       absurd (omega (arith, with-same (maskOf (map (S .task) ds)) (S .task d), ap (λ (K : ℕ). bit K (S .task d)) e, bit-none (S .task d)))
   open-some (d ∷ ds) (suc i) l e = open-some ds i (omega arith) e
 
-  -- so it is essential
-  pub solution-essential : (s : ℕ) (ds : List ℕ) → isSolution S s ds ≡ true → (i : ℕ) → i < length ds → essential S (maskOf (map (S .task) (drop i ds))) ≡ true
+  -- so where the pairs allow it, it is essential
+  open-essential : (ds : List ℕ) (i : ℕ) → i < length ds → pairsAllow S (maskOf (map (S .task) (drop i ds))) ≡ true
+      → essential S (maskOf (map (S .task) (drop i ds))) ≡ true
   unfolding pairsAllow
-  solution-essential s ds e i l = rw (ne-eqb (maskOf (map (S .task) (drop i ds))) 0 (open-some ds i l)) at (solution-allowed s ds e i)
+  open-essential ds i l a = rw (ne-eqb (maskOf (map (S .task) (drop i ds))) 0 (open-some ds i l)) at a
 
+  pub solution-essential : (s : ℕ) (ds : List ℕ) → isSolution S s ds ≡ true → (i : ℕ) → i < length ds → essential S (maskOf (map (S .task) (drop i ds))) ≡ true
+  solution-essential s ds e i l = open-essential ds i l (solution-allowed s ds e i)
+
+  pub completion-essential : (K : ℕ) (ds : List ℕ) → K < 2 ^ S .tasks → pairsAllow S K ≡ true → isCompletion S K ds ≡ true
+      → (i : ℕ) → i < length ds → essential S (maskOf (map (S .task) (drop i ds))) ≡ true
+  completion-essential K ds k a e i l = open-essential ds i l (open-allowed K ds k a e i)
+
+  -- it is one of the sheet's tasks
   open-listed : (ds : List ℕ) → inSheet S ds ≡ true → (i : ℕ) → maskOf (map (S .task) (drop i ds)) < 2 ^ S .tasks
   unfolding inSheet
   open-listed [] h zero = pow-pos (S .tasks)
@@ -57,7 +67,6 @@ module _ (S : Sheet) (R : InRange S) where
       (open-listed ds (and-right (ltb d (S .doors)) (inSheet S ds) h) zero) (R .task d (ltb-true d (S .doors) (and-left (ltb d (S .doors)) (inSheet S ds) h)))
   open-listed (d ∷ ds) h (suc i) = open-listed ds (and-right (ltb d (S .doors)) (inSheet S ds) h) i
 
-  -- it is one of the sheet's tasks
   pub solution-below : (s : ℕ) (ds : List ℕ) → isSolution S s ds ≡ true → (i : ℕ) → maskOf (map (S .task) (drop i ds)) < 2 ^ S .tasks
   solution-below s ds e = open-listed ds (solution S s ds e .doors)
 
@@ -65,3 +74,9 @@ module _ (S : Sheet) (R : InRange S) where
   pub solution-loads : LoadsHold S → (s : ℕ) (ds : List ℕ) → isSolution S s ds ≡ true
       → (i : ℕ) → i < length ds → T (nonNeg (load S (maskOf (map (S .task) (drop i ds)))))
   solution-loads h s ds e i l = h (maskOf (map (S .task) (drop i ds))) (solution-below s ds e i) (solution-essential s ds e i l)
+
+  pub completion-loads : LoadsHold S → (K : ℕ) (ds : List ℕ) → K < 2 ^ S .tasks → pairsAllow S K ≡ true → isCompletion S K ds ≡ true
+      → (i : ℕ) → i < length ds → T (nonNeg (load S (maskOf (map (S .task) (drop i ds)))))
+  unfolding isCompletion
+  completion-loads h K ds k a e i l =
+      h (maskOf (map (S .task) (drop i ds))) (open-listed ds (and-left (inSheet S ds) _ e) i) (completion-essential K ds k a e i l)

@@ -1,9 +1,10 @@
 -- Calls that are refused with the number of the first test that applies, for any list of tests: a refusal is one of the list; where all pass the
--- answer stands; two calls with the same tests refuse alike; and where the numbers rise, the lowest that applies is answered. Assumes nothing.
-use Rattle.model.proofs.Basics.{_≡_, refl, sym, ap, _∙_, _⊎_, inl, inr, ⊎-elim, _↔_, true, false, true≢false, List, [], _∷_, _++_, ℕ}
-use Rattle.model.proofs.Basics.{zero, suc, _≤_, _<_, arith}
-use Rattle.model.specs.{Answer.Answer, isBetween, allIn, refused, accepted, Test, _when_, refuseIf, refuseFirst, status}
-use Rattle.model.specs.Figures.{Lowest, None, AnswersBy}
+-- answer stands; two calls with the same tests refuse alike; and where the numbers stand in the order in which they are tested, the first that applies is answered.
+-- Assumes nothing.
+use Rattle.model.proofs.Basics.{_≡_, refl, sym, ap, _∙_, _⊎_, inl, inr, ⊎-elim, _↔_, Bool, true, false, _&&_, true≢false, List, [], _∷_}
+use Rattle.model.proofs.Basics.{_++_, map, ℕ, zero, suc, _≤_, _<_, arith, eqb, ltb, leb, length, eqb-false, ltb-true, leb-true}
+use Rattle.model.specs.{Answer.Answer, isBetween, allIn, indexOf, refused, accepted, Test, _when_, refuseIf, refuseFirst, status}
+use Rattle.model.specs.Figures.{First, None, AnswersBy}
 use Rattle.model.proofs.Tools.Tests.{not-both, and-left, and-right, between-true, by-last, by-test}
 
 -- ---- answers
@@ -97,18 +98,6 @@ applies-append ((n when t) ∷ ts) us r =
       ⊎-elim (⊎-elim inl (λ k. inr (s .1 (inl k)))) (λ k. inr (s .1 (inr k))),
     )
 
--- ---- tests whose numbers rise
-
--- the numbers rise, from above m on
-abbrev pub Rising : ℕ → List Test → Type 0
-Rising m [] = Unit {0}
-Rising m ((n when t) ∷ ts) = (m < n) × Rising n ts
-
-rising-above : (m : ℕ) (ts : List Test) (r : ℕ) → Rising m ts → Applies ts r → m < r
-rising-above m [] r h e = absurd e
-rising-above m ((n when t) ∷ ts) r h (inl e) = omega (arith, h .0, e .0)
-rising-above m ((n when t) ∷ ts) r h (inr e) = omega (arith, h .0, rising-above n ts r (h .1) e)
-
 pub none-applies : (ts : List Test) → AllPass ts → (r : ℕ) → Applies ts r → ⊥
 none-applies [] h r e = e
 none-applies ((n when t) ∷ ts) h r (inl e) = not-both (e .1) (h .0)
@@ -118,78 +107,122 @@ pub pass-none : (ts : List Test) → ((r : ℕ) → Applies ts r → ⊥) → Al
 pass-none [] h = tt
 pass-none ((n when t) ∷ ts) h = (by-test t (λ w. absurd (h n (inl (refl, w)))) (λ w. w), pass-none ts (λ r e. h r (inr e)))
 
--- what is refused is refused with the lowest number that applies
-lowest-refused : {A : Type 0} (m : ℕ) (ts : List Test) (a : Answer A) (r : ℕ) → Rising m ts → (AllPass ts → a ≡ refused r → ⊥)
-    → refuseFirst ts a ≡ refused r → Lowest (Applies ts) r
-lowest-refused m [] a r h k e = absurd (k tt e)
-lowest-refused m ((n when true) ∷ ts) a r h k e =
-    let q : n ≡ r = refused-number e in
-    (inl (sym q, refl), λ i l. ⊎-elim (λ s. omega (arith, s .0)) (λ s. omega (arith, rising-above n ts i (h .1) s)))
-lowest-refused m ((n when false) ∷ ts) a r h k e =
-    let p = lowest-refused n ts a r (h .1) (λ p. k (refl, p)) e in
-    (inr (p .0), λ i l. ⊎-elim (λ s. true≢false (sym (s .1))) (p .1 i l))
+-- ---- the order of the tests
 
--- and the lowest number that applies is answered
-refused-lowest : {A : Type 0} (m : ℕ) (ts : List Test) (a : Answer A) (r : ℕ) → Rising m ts → Lowest (Applies ts) r
-    → refuseFirst ts a ≡ refused r
-refused-lowest m [] a r h p = absurd (p .0)
-refused-lowest m ((n when true) ∷ ts) a r h (inl s, p) = ap refused (sym (s .0))
-refused-lowest m ((n when true) ∷ ts) a r h (inr s, p) = absurd (p n (rising-above n ts r (h .1) s) (inl (refl, refl)))
-refused-lowest m ((n when false) ∷ ts) a r h (inl s, p) = absurd (true≢false (sym (s .1)))
-refused-lowest m ((n when false) ∷ ts) a r h (inr s, p) = refused-lowest n ts a r (h .1) (s, λ i l k. p i l (inr k))
+-- a number of the first tests stands in front of all that follow
+pub applies-before : (ts : List Test) (ns : List ℕ) (r : ℕ) → Applies ts r → indexOf r (map testNumber ts ++ ns) < length ts
+applies-before [] ns r h = absurd h
+applies-before ((n when t) ∷ ts) ns r h = by-test (eqb n r)
+    (λ w. rw w (omega arith))
+    (λ w. rw w (⊎-elim (λ e. absurd (eqb-false n r w (sym (e .0)))) (λ e. omega (arith, applies-before ts ns r e)) h))
 
--- ---- two ways to say which numbers apply
+module _ (order : List ℕ) where
+  -- the tests stand in the order, from place m on, and their numbers are above 0
+  abbrev pub inOrder : ℕ → List Test → Bool
+  inOrder m [] = true
+  inOrder m ((n when t) ∷ ts) = leb m (indexOf n order) && ltb 0 n && inOrder (suc (indexOf n order)) ts
 
--- each says the same of a number where no lower one applies: then both have the same lowest
-module _ (P Q : ℕ → Type 0) (same : (r : ℕ) → ((n : ℕ) → n < r → P n → ⊥) → P r ↔ Q r) where
-  none-lower : (r : ℕ) → ((n : ℕ) → n < r → Q n → ⊥) → (n : ℕ) → n < r → P n → ⊥
-  none-lower zero h n l p = absurd (omega arith)
-  none-lower (suc r) h n l p = by-last n r l
-      (λ w. h n (omega arith) (same n (λ k m. none-lower r (λ i o. h i (omega arith)) k (omega arith)) .0 p))
-      (λ w. none-lower r (λ i o. h i (omega arith)) n w p)
+  -- what the first test says of the order
+  module _ (m n : ℕ) (t : Bool) (ts : List Test) (h : inOrder m ((n when t) ∷ ts) ≡ true) where
+    head-at : m ≤ indexOf n order
+    head-at = leb-true m _ (and-left (leb m (indexOf n order)) _ (and-left (leb m (indexOf n order) && ltb 0 n) _ h))
 
-  lower-none : (r : ℕ) → ((n : ℕ) → n < r → P n → ⊥) → (n : ℕ) → n < r → Q n → ⊥
-  lower-none r h n l q = h n l (same n (λ k m. h k (omega arith)) .1 q)
+    head-above : 0 < n
+    head-above = ltb-true 0 n (and-right (leb m (indexOf n order)) _ (and-left (leb m (indexOf n order) && ltb 0 n) _ h))
 
-  pub same-lowest : (r : ℕ) → Lowest P r ↔ Lowest Q r
-  same-lowest r = (
-    (λ p. (same r (p .1) .0 (p .0), lower-none r (p .1))),
-    (λ q. let h = none-lower r (q .1) in (same r h .1 (q .0), h)),
-  )
+    rest-in : inOrder (suc (indexOf n order)) ts ≡ true
+    rest-in = and-right (leb m (indexOf n order) && ltb 0 n) _ h
 
-  pub same-none : None P ↔ None Q
-  same-none = (
-    (λ p n. lower-none (suc n) (λ k l. p k) n (omega arith)),
-    (λ q n. none-lower (suc n) (λ k l. q k) n (omega arith)),
-  )
+  -- so does every number of the list that applies
+  placed-from : (m : ℕ) (ts : List Test) (r : ℕ) → inOrder m ts ≡ true → Applies ts r → m ≤ indexOf r order
+  placed-from m [] r h e = absurd e
+  placed-from m ((n when t) ∷ ts) r h (inl e) = rw (e .0) (head-at m n t ts h)
+  placed-from m ((n when t) ∷ ts) r h (inr e) =
+      omega (arith, head-at m n t ts h, placed-from (suc (indexOf n order)) ts r (rest-in m n t ts h) e)
 
--- ---- the law of a call: tests whose numbers rise, above 0, and what they mean where no lower number applies
-pub answers-by : {A : Type 0} (ts : List Test) (a : Answer A) (applies : ℕ → Type 0) → Rising 0 ts → (AllPass ts → (x : A) × (a ≡ accepted x))
-    → ((r : ℕ) → ((n : ℕ) → n < r → Applies ts n → ⊥) → Applies ts r ↔ applies r) → AnswersBy applies (refuseFirst ts a)
-answers-by {A} ts a applies up ends means = record {
-  refuses = λ r. (there r, back r);
-  accepts = (
-    (λ h. same-none (Applies ts) applies means .0 (none-applies ts (accepted-pass ts a (h .0) (h .1) .0))),
-    (λ h. let p = passes h in let e = ends p in (e .0, all-pass ts a p ∙ e .1)),
-  );
-  returns = λ r l. ((λ e. there r (returned-refusal (refuseFirst ts a) r l e)), (λ h. ap status (back r h)));
-  returns-0 = (
-    (λ e. let x = returned-0 (refuseFirst ts a) above e in same-none (Applies ts) applies means .0 (none-applies ts (accepted-pass ts a (x .0) (x .1) .0))),
-    (λ h. let p = passes h in let e = ends p in ap status (all-pass ts a p ∙ e .1)),
-  );
-}
-  where
-    passes : None applies → AllPass ts
-    passes h = pass-none ts (same-none (Applies ts) applies means .1 h)
+  above-0 : (m : ℕ) (ts : List Test) (r : ℕ) → inOrder m ts ≡ true → Applies ts r → 0 < r
+  above-0 m [] r h e = absurd e
+  above-0 m ((n when t) ∷ ts) r h (inl e) = rw (e .0) (head-above m n t ts h)
+  above-0 m ((n when t) ∷ ts) r h (inr e) = above-0 (suc (indexOf n order)) ts r (rest-in m n t ts h) e
 
-    lowest : (r : ℕ) → refuseFirst ts a ≡ refused r → Lowest (Applies ts) r
-    lowest r e = lowest-refused 0 ts a r up (λ p w. absurd (refused≢accepted (sym w ∙ ends p .1))) e
+  -- what is refused is refused with the first number that applies
+  first-refused : {A : Type 0} (m : ℕ) (ts : List Test) (a : Answer A) (r : ℕ) → inOrder m ts ≡ true → (AllPass ts → a ≡ refused r → ⊥)
+      → refuseFirst ts a ≡ refused r → First order (Applies ts) r
+  first-refused m [] a r h k e = absurd (k tt e)
+  first-refused m ((n when true) ∷ ts) a r h k e =
+      let q : n ≡ r = refused-number e in
+      let same : indexOf n order ≡ indexOf r order = ap (λ (x : ℕ). indexOf x order) q in (
+        inl (sym q, refl),
+        λ i l. ⊎-elim
+            (λ s. omega (arith, same, ap (λ (x : ℕ). indexOf x order) (s .0), l))
+            (λ s. omega (arith, same, placed-from (suc (indexOf n order)) ts i (rest-in m n true ts h) s, l)),
+      )
+  first-refused m ((n when false) ∷ ts) a r h k e =
+      let p = first-refused (suc (indexOf n order)) ts a r (rest-in m n false ts h) (λ p. k (refl, p)) e in
+      (inr (p .0), λ i l. ⊎-elim (λ s. true≢false (sym (s .1))) (p .1 i l))
 
-    there : (r : ℕ) → refuseFirst ts a ≡ refused r → Lowest applies r
-    there r e = same-lowest (Applies ts) applies means r .0 (lowest r e)
+  -- and the first number that applies is answered
+  refused-first : {A : Type 0} (m : ℕ) (ts : List Test) (a : Answer A) (r : ℕ) → inOrder m ts ≡ true → First order (Applies ts) r
+      → refuseFirst ts a ≡ refused r
+  refused-first m [] a r h p = absurd (p .0)
+  refused-first m ((n when true) ∷ ts) a r h (inl s, p) = ap refused (sym (s .0))
+  refused-first m ((n when true) ∷ ts) a r h (inr s, p) =
+      absurd (p n (placed-from (suc (indexOf n order)) ts r (rest-in m n true ts h) s) (inl (refl, refl)))
+  refused-first m ((n when false) ∷ ts) a r h (inl s, p) = absurd (true≢false (sym (s .1)))
+  refused-first m ((n when false) ∷ ts) a r h (inr s, p) = refused-first (suc (indexOf n order)) ts a r (rest-in m n false ts h) (s, λ i l k. p i l (inr k))
 
-    back : (r : ℕ) → Lowest applies r → refuseFirst ts a ≡ refused r
-    back r h = refused-lowest 0 ts a r up (same-lowest (Applies ts) applies means r .1 h)
+  -- ---- two ways to say which numbers apply
 
-    above : (r : ℕ) → refuseFirst ts a ≡ refused r → 0 < r
-    above r e = rising-above 0 ts r up (lowest r e .0)
+  -- each says the same of a number where none before it applies: then both have the same first
+  module _ (P Q : ℕ → Type 0) (same : (r : ℕ) → ((n : ℕ) → indexOf n order < indexOf r order → P n → ⊥) → P r ↔ Q r) where
+    none-earlier : (k : ℕ) → ((n : ℕ) → indexOf n order < k → Q n → ⊥) → (n : ℕ) → indexOf n order < k → P n → ⊥
+    none-earlier zero h n l p = absurd (omega arith)
+    none-earlier (suc k) h n l p = by-last (indexOf n order) k l
+        (λ w. h n l (same n (λ i m. none-earlier k (λ i o. h i (omega arith)) i (omega arith)) .0 p))
+        (λ w. none-earlier k (λ i o. h i (omega arith)) n w p)
+
+    earlier-none : (k : ℕ) → ((n : ℕ) → indexOf n order < k → P n → ⊥) → (n : ℕ) → indexOf n order < k → Q n → ⊥
+    earlier-none k h n l q = h n l (same n (λ i m. h i (omega arith)) .1 q)
+
+    pub same-first : (r : ℕ) → First order P r ↔ First order Q r
+    same-first r = (
+      (λ p. (same r (p .1) .0 (p .0), earlier-none (indexOf r order) (p .1))),
+      (λ q. let h = none-earlier (indexOf r order) (q .1) in (same r h .1 (q .0), h)),
+    )
+
+    pub same-none : None P ↔ None Q
+    same-none = (
+      (λ p n. earlier-none (suc (indexOf n order)) (λ k l. p k) n (omega arith)),
+      (λ q n. none-earlier (suc (indexOf n order)) (λ k l. q k) n (omega arith)),
+    )
+
+  -- ---- the law of a call: tests that stand in the order, with numbers above 0, and what they mean where none before applies
+  pub answers-by : {A : Type 0} (ts : List Test) (a : Answer A) (applies : ℕ → Type 0) → inOrder 0 ts ≡ true → (AllPass ts → (x : A) × (a ≡ accepted x))
+      → ((r : ℕ) → ((n : ℕ) → indexOf n order < indexOf r order → Applies ts n → ⊥) → Applies ts r ↔ applies r) → AnswersBy order applies (refuseFirst ts a)
+  answers-by {A} ts a applies stand ends means = record {
+    refuses = λ r. (there r, back r);
+    accepts = (
+      (λ h. same-none (Applies ts) applies means .0 (none-applies ts (accepted-pass ts a (h .0) (h .1) .0))),
+      (λ h. let p = passes h in let e = ends p in (e .0, all-pass ts a p ∙ e .1)),
+    );
+    returns = λ r l. ((λ e. there r (returned-refusal (refuseFirst ts a) r l e)), (λ h. ap status (back r h)));
+    returns-0 = (
+      (λ e. let x = returned-0 (refuseFirst ts a) above e in same-none (Applies ts) applies means .0 (none-applies ts (accepted-pass ts a (x .0) (x .1) .0))),
+      (λ h. let p = passes h in let e = ends p in ap status (all-pass ts a p ∙ e .1)),
+    );
+  }
+    where
+      passes : None applies → AllPass ts
+      passes h = pass-none ts (same-none (Applies ts) applies means .1 h)
+
+      first : (r : ℕ) → refuseFirst ts a ≡ refused r → First order (Applies ts) r
+      first r e = first-refused 0 ts a r stand (λ p w. absurd (refused≢accepted (sym w ∙ ends p .1))) e
+
+      there : (r : ℕ) → refuseFirst ts a ≡ refused r → First order applies r
+      there r e = same-first (Applies ts) applies means r .0 (first r e)
+
+      back : (r : ℕ) → First order applies r → refuseFirst ts a ≡ refused r
+      back r h = refused-first 0 ts a r stand (same-first (Applies ts) applies means r .1 h)
+
+      above : (r : ℕ) → refuseFirst ts a ≡ refused r → 0 < r
+      above r e = above-0 0 ts r stand (first r e .0)

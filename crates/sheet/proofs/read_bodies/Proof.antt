@@ -30,24 +30,24 @@ ranges c = sym (c .before .out-of-range .ensures) ∙ c .if1 .left
 inside : (c : tie.Else1) → InRange (decode (bytes (c .before .before)))
 inside c = in-range (layoutOf _) _ (ranges c)
 
--- where 15 was left
-abbrev left2 : tie.Else2 → tie.Else1
-left2 c = c .before .before .before
+-- what 15, 17 and 16 found, and where they were left
+abbrev tested : tie.After-too-light → tie.Else1
+tested c = c .before .before .before
 
-abbrev bytes2 : tie.Else2 → List ℕ
-bytes2 c = bytes (left2 c .before .before)
+abbrev bytes2 : tie.After-too-light → List ℕ
+bytes2 c = bytes (tested c .before .before)
 
-doors : (c : tie.Else2) → someLacksDoor (decode (bytes2 c)) ≡ false
-doors c = sym (c .before .before .some-lacks-door .ensures) ∙ c .if2 .left
-
-light : (c : tie.Else3) → tooLight (decode (bytes2 (c .before))) ≡ false
-light c = sym (c .before .before .too-light .ensures) ∙ c .if3 .left
+doors : (c : tie.After-too-light) → someLacksDoor (decode (bytes2 c)) ≡ c .before .before .some-lacks-door .result
+doors c = sym (c .before .before .some-lacks-door .ensures)
 
 -- 17 is what striking off leaves
-order : (c : tie.After-something-left) → noOrder (decode (bytes2 (c .before .before))) ≡ c .something-left .result
+order : (c : tie.After-too-light) → noOrder (decode (bytes2 c)) ≡ c .before .something-left .result
 order c =
-    let e = left2 (c .before .before) in
-    something-left (decode (bytes (e .before .before))) (inside e) (omega (arith, few (e .before .before))) ∙ sym (c .something-left .ensures)
+    let e = tested c in
+    something-left (decode (bytes (e .before .before))) (inside e) (omega (arith, few (e .before .before))) ∙ sym (c .before .something-left .ensures)
+
+light : (c : tie.After-too-light) → tooLight (decode (bytes2 c)) ≡ c .too-light .result
+light c = sym (c .too-light .ensures)
 
 -- ---- what the tests that remain answer
 
@@ -58,13 +58,13 @@ remaining5 : (c : tie.Else1) → readSheet (bytes (c .before .before)) ≡ remai
 unfolding sheetTests
 remaining5 c = remaining4 (c .before .before) ∙ rw (ranges c)
 
-remaining6 : (c : tie.Else2) → readSheet (bytes2 c) ≡ remaining 6 (bytes2 c)
+remaining6 : (c : tie.Else2) → readSheet (bytes2 (c .before)) ≡ remaining 6 (bytes2 (c .before))
 unfolding sheetTests
-remaining6 c = remaining5 (left2 c) ∙ rw (doors c)
+remaining6 c = remaining5 (tested (c .before)) ∙ rw (doors (c .before) ∙ c .if2 .left)
 
-remaining7 : (c : tie.Else3) → readSheet (bytes2 (c .before)) ≡ remaining 7 (bytes2 (c .before))
+remaining7 : (c : tie.Else3) → readSheet (bytes2 (c .before .before)) ≡ remaining 7 (bytes2 (c .before .before))
 unfolding sheetTests
-remaining7 c = remaining6 (c .before) ∙ rw (light c)
+remaining7 c = remaining6 (c .before) ∙ rw (order (c .before .before) ∙ c .if3 .left)
 
 -- ---- the answers
 
@@ -79,36 +79,37 @@ returns c = (sym (remaining4 (c .before .before) ∙ rw (sym (c .before .out-of-
 some-lacks-door-requires : tie.Need-some-lacks-door-requires
 some-lacks-door-requires c κs = (view (c .before .before), omega (arith, few (c .before .before)))
 
+something-left-requires : tie.Need-something-left-requires
+something-left-requires c κs = let e = c .before in (view (e .before .before), few (e .before .before), inside e)
+
 too-light-requires : tie.Need-too-light-requires
-too-light-requires c κs = let k = c .before .before .before in (view k, omega (arith, few k))
+too-light-requires c κs = let k = c .before .before .before .before in (view k, omega (arith, few k))
 
 -- 15 applies
 returns-2 : tie.Need-returns-2
 unfolding sheetTests
-returns-2 c = (sym (remaining5 (c .before .before .before) ∙ rw (sym (c .before .before .some-lacks-door .ensures) ∙ c .if2 .taken)), refl)
-
--- 16 applies
-returns-3 : tie.Need-returns-3
-unfolding sheetTests
-returns-3 c = (sym (remaining6 (c .before) ∙ rw (sym (c .before .before .too-light .ensures) ∙ c .if3 .taken)), refl)
-
-something-left-requires : tie.Need-something-left-requires
-something-left-requires c κs = let e = left2 (c .before) in (view (e .before .before), few (e .before .before), inside e)
+returns-2 c = (sym (remaining5 (tested (c .before)) ∙ rw (doors (c .before) ∙ c .if2 .taken)), refl)
 
 -- 17 applies
+returns-3 : tie.Need-returns-3
+unfolding sheetTests
+returns-3 c = (sym (remaining6 (c .before) ∙ rw (order (c .before .before) ∙ c .if3 .taken)), refl)
+
+-- 16 applies
 returns-4 : tie.Need-returns-4
 unfolding sheetTests
-returns-4 c = (sym (remaining7 (c .before .before) ∙ rw (order (c .before) ∙ c .if4 .taken)), refl)
+returns-4 c = (sym (remaining7 (c .before) ∙ rw (light (c .before .before .before) ∙ c .if4 .taken)), refl)
 
 -- none applies, and the view is handed on
 returns-5 : tie.Need-returns-5
 unfolding sheetTests
 returns-5 c =
-    let b = left2 (c .before .before .before) .before .before in (
-      ap₂ answer (tasks-are (view b)) (points-are (view b)) ∙ sym (remaining7 (c .before .before) ∙ rw (order (c .before) ∙ c .if4 .left)),
+    let t = c .before .before .before in
+    let b = tested t .before .before in (
+      ap₂ answer (tasks-are (view b)) (points-are (view b)) ∙ sym (remaining7 (c .before) ∙ rw (light t ∙ c .if4 .left)),
       b .before .pre .1,
     )
 
 pub read-bodies-spec : {M : Type 1} → statement M
-read-bodies-spec = tie.close (tie.spec out-of-range-requires returns some-lacks-door-requires too-light-requires returns-2 returns-3
-    something-left-requires returns-4 returns-5)
+read-bodies-spec = tie.close (tie.spec out-of-range-requires returns some-lacks-door-requires something-left-requires too-light-requires
+    returns-2 returns-3 returns-4 returns-5)

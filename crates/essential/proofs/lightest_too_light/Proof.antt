@@ -5,9 +5,9 @@ use Rattle.model.specs.{decode}
 use Rattle.model.proofs.Tools.SignedSums.{no-sum, widened-fits, next-fits, next-sum, same-sum}
 use mir.Syntax.{w16, w32}
 use Rattle.view.proofs.Counted.{tasks-are}
-use Rattle.feasible.proofs.Lightest.{LightestBelow, taken-away, not-taken, all-tasks}
-use Rattle.feasible.proofs.too_light.Statement.{statement}
-use Rattle.feasible.proofs.too_light.Tie as tie
+use Rattle.essential.proofs.Lightest.{LightestBelow, taken-away, not-taken, all-tasks}
+use Rattle.essential.proofs.lightest_too_light.Statement.{statement}
+use Rattle.essential.proofs.lightest_too_light.Tie as tie
 
 abbrev Inv-loop : tie.InvT-loop
 Inv-loop s v tasks lightest₀ t₀ lightest t = (t ≤ tasks) × LightestBelow (decode s) t lightest
@@ -50,6 +50,6 @@ loop-again c =
 returns : tie.Need-returns Inv-loop μ-loop
 returns c = let n = tasks-are (c .before .before .before .before .pre .0) in all-tasks (c .before .loop .inv .1) (omega arith)
 
-pub too-light-spec : {M : Type 1} → statement M
-too-light-spec = tie.close (tie.spec Inv-loop μ-loop (λ c κs. search needs) (λ c. search needs) loop-holds change-requires cast-lightest-2
+pub lightest-too-light-spec : {M : Type 1} → statement M
+lightest-too-light-spec = tie.close (tie.spec Inv-loop μ-loop (λ c κs. search needs) (λ c. search needs) loop-holds change-requires cast-lightest-2
     add-lightest (λ c. search needs) (λ c. search needs) loop-again returns)

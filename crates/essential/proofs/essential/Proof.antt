@@ -3,9 +3,9 @@ use Rattle.model.proofs.Basics.{_≡_, sym, ap, _∙_, not, _&&_, _-_, needs}
 use Rattle.model.specs.{decode}
 use Rattle.model.proofs.Tools.Searches.{PassedBelow, none-tried, passed-on, all-passed, one-failed}
 use Rattle.view.proofs.Counted.{pairs-are}
-use Rattle.table.proofs.Receivers.{keepsReceiver, none-open, some-open, keeps-is}
-use Rattle.table.proofs.essential.Statement.{statement}
-use Rattle.table.proofs.essential.Tie as tie
+use Rattle.essential.proofs.Receivers.{keepsReceiver, none-open, some-open, keeps-is}
+use Rattle.essential.proofs.essential.Statement.{statement}
+use Rattle.essential.proofs.essential.Tie as tie
 
 abbrev Inv-loop : tie.InvT-loop
 Inv-loop s v k pairs i₀ i = (pairs ≡ decode s .pairs) × PassedBelow pairs (keepsReceiver (decode s) k) i

@@ -1,6 +1,6 @@
 -- The end load and the negative changes so far, summed in 32 bits. Assumes nothing.
 use Rattle.model.proofs.Basics.{_≡_, sym, ap, _∙_, true, false, ℕ, suc, _^_, _<_, ℤ, pos, _+ℤ_}
-use Rattle.model.specs.{lightestBelow, tooLight}
+use Rattle.model.specs.{lightestBelow, lightestTooLight}
 use Rattle.model.specs.Sheet.{Sheet}
 use Rattle.model.proofs.Tools.SignedSums.{back, SumBelow}
 use lib.Signed.{mag, ltZ}
@@ -22,6 +22,6 @@ module _ {S : Sheet} {t sum : ℕ} (h : LightestBelow S t sum) {x : ℤ} (e : x 
   pub not-taken : ltZ (toZ w16 (ofZ w16 x)) (pos 0) ≡ false → lightestBelow S (suc t) ≡ lightestBelow S t +ℤ pos 0
   not-taken n = rw (sign ∙ n)
 
-pub all-tasks : {S : Sheet} {t sum : ℕ} → LightestBelow S t sum → t ≡ S .tasks → ltZ (toZ w32 sum) (pos 0) ≡ tooLight S
-unfolding tooLight
+pub all-tasks : {S : Sheet} {t sum : ℕ} → LightestBelow S t sum → t ≡ S .tasks → ltZ (toZ w32 sum) (pos 0) ≡ lightestTooLight S
+unfolding lightestTooLight
 all-tasks {S} h e = ap (λ z. ltZ z (pos 0)) (h .is ∙ ap (lightestBelow S) e)

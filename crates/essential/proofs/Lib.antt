@@ -1,0 +1,3 @@
+pub mod Receivers
+pub mod Lightest
+pub mod Lists
