@@ -16,6 +16,12 @@ typedef uint32_t plan_call(const uint8_t *sheet, size_t len, uint64_t *cells, si
 typedef uint32_t price_call(const uint8_t *sheet, size_t len, uint64_t *even, size_t neven, uint64_t *odd, size_t nodd,
                             uint64_t *cost, uint16_t *start);
 
+/* One way to read. */
+struct look {
+    const char *loads, *essential;
+    read_call *read;
+};
+
 /* One way to plan and to price. */
 struct way {
     const char *gathering, *points;
@@ -23,11 +29,11 @@ struct way {
     price_call *price;
 };
 
-enum { WAYS = 7 };
+enum { LOOKS = 2, WAYS = 7 };
 
 struct build {
     const char *compiler, *version, *target;
-    read_call *read;
+    struct look looks[LOOKS];
     validate_call *validate;
     plan_call *triple_loop;
     struct way ways[WAYS];

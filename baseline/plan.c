@@ -20,7 +20,10 @@ EACH_WAY(PLAN)
 
 EACH_WAY(DECLARE_PRICE)
 
-extern read_call OWN(read);
+#define DECLARE_READ(name, ...) extern read_call OWN(read_##name);
+
+EACH_LOOK(DECLARE_READ)
+
 extern validate_call OWN(validate);
 extern plan_call OWN(triple_loop);
 extern const struct build OWN(build);
@@ -31,8 +34,9 @@ extern const struct build OWN(build);
 #define COMPILER "gcc"
 #endif
 
+#define READ_CALL(name, loads, essential) {loads, essential, OWN(read_##name)},
 #define CALLS(name, gathering, points, ...) {gathering, points, plan_##name, OWN(price_##name)},
 
 const struct build OWN(build) = {
-    COMPILER, __VERSION__, TARGET, OWN(read), OWN(validate), OWN(triple_loop), {EACH_WAY(CALLS)},
+    COMPILER, __VERSION__, TARGET, {EACH_LOOK(READ_CALL)}, OWN(validate), OWN(triple_loop), {EACH_WAY(CALLS)},
 };

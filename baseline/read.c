@@ -1,16 +1,19 @@
-/* vanplan_read in C. */
+/* vanplan_read in C by each way to look for a light list. */
+#define NO_ORDER_INLINE ALWAYS_INLINE
 #include "read.h"
 
-read_call OWN(read);
+#define READ(name, loads, essential)                                                                                   \
+    read_call OWN(read_##name);                                                                                        \
+    uint32_t OWN(read_##name)(const uint8_t *sheet, size_t len, uint64_t *tasks, uint64_t *points)                     \
+    {                                                                                                                  \
+        struct sheet s;                                                                                                \
+        uint32_t refusal = read_by(OWN(light_##name), sheet, len, &s);                                                 \
+                                                                                                                       \
+        if (refusal)                                                                                                   \
+            return refusal;                                                                                            \
+        *tasks = s.ntasks;                                                                                             \
+        *points = s.npoints;                                                                                           \
+        return 0;                                                                                                      \
+    }
 
-uint32_t OWN(read)(const uint8_t *sheet, size_t len, uint64_t *tasks, uint64_t *points)
-{
-    struct sheet s;
-    uint32_t refusal = read_sheet(sheet, len, &s);
-
-    if (refusal)
-        return refusal;
-    *tasks = s.ntasks;
-    *points = s.npoints;
-    return 0;
-}
+EACH_LOOK(READ)

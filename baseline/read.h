@@ -1,8 +1,8 @@
-/* Reading a task sheet: 10 to 17 in their order, each body in one pass. */
+/* Reading a task sheet: 10 to 15, then 17, then 16, each body in one pass. */
 #ifndef READ_H
 #define READ_H
 
-#include "sheet.h"
+#include "light.h"
 
 /* Of contents line i: the number of entries, and body number and offset as one number. */
 static inline uint32_t line_entries(const uint8_t *bytes, size_t i)
@@ -120,18 +120,6 @@ static inline uint32_t scan_rules(const struct sheet *s)
     return bad;
 }
 
-/* 16: whether the end load and all negative changes add up to less than zero. */
-static inline int too_light(const struct sheet *s)
-{
-    int32_t lightest = (int32_t)s->end_load;
-
-    for (size_t t = 0; t < s->ntasks; t++) {
-        int32_t change = load_change(s, t);
-        lightest += change < 0 ? change : 0;
-    }
-    return lightest < 0;
-}
-
 /* The receivers of the tasks in a list. */
 static inline uint32_t receivers_of(const struct sheet *s, uint32_t list)
 {
@@ -144,8 +132,13 @@ static inline uint32_t receivers_of(const struct sheet *s, uint32_t list)
     return receivers;
 }
 
-/* 17: whether something stays when, again and again, the tasks are struck off that are receivers of none left. */
-static inline int no_order(const struct sheet *s)
+/* 17: whether something stays when, again and again, the tasks are struck off that are receivers of none left. The call
+ * that reads has it in line; elsewhere that is left to the compiler. */
+#ifndef NO_ORDER_INLINE
+#define NO_ORDER_INLINE static inline
+#endif
+
+NO_ORDER_INLINE int no_order(const struct sheet *s)
 {
     uint32_t left = full_list(s);
 
@@ -158,10 +151,25 @@ static inline int no_order(const struct sheet *s)
     return 0;
 }
 
-/* Reads a sheet: 0 and what it found, or the first of 10 to 17 that applies. */
-static inline uint32_t read_sheet(const uint8_t *bytes, size_t len, struct sheet *s)
+/* The load of the lightest list of all: the end load and all negative changes. */
+static inline int32_t lightest(const struct sheet *s)
+{
+    int32_t load = (int32_t)s->end_load;
+
+    for (size_t t = 0; t < s->ntasks; t++) {
+        int32_t change = load_change(s, t);
+        load += change < 0 ? change : 0;
+    }
+    return load;
+}
+
+/* Reads a sheet, by a way to look for a light list: 0 and what it found, or the first number that applies. No list is
+ * light unless the lightest of all is. What looks further gets a copy, so that the sheet need not stand in memory. */
+ALWAYS_INLINE uint32_t read_by(light_call *some_light, const uint8_t *bytes, size_t len, struct sheet *s)
 {
     uint64_t served;
+    struct sheet copy;
+    int light;
 
     if (len < HEAD_BYTES)
         return 10;
@@ -176,9 +184,19 @@ static inline uint32_t read_sheet(const uint8_t *bytes, size_t len, struct sheet
         return 14;
     if (served != full_list(s))
         return 15;
-    if (too_light(s))
-        return 16;
-    return no_order(s) ? 17 : 0;
+    light = lightest(s) < 0; /* before 17, where it takes less */
+    if (no_order(s))
+        return 17;
+    if (!light)
+        return 0;
+    copy = *s;
+    return some_light(&copy) ? 16 : 0;
+}
+
+/* By the fastest way: for whoever plans, prices or validates. */
+static inline uint32_t read_sheet(const uint8_t *bytes, size_t len, struct sheet *s)
+{
+    return read_by(OWN(light_by_halves), bytes, len, s);
 }
 
 #endif

@@ -7,9 +7,10 @@
  * Any bytes and any numbers may be passed: no call reads or writes outside of what it is lent, and every call ends. A
  * call keeps nothing from one call to the next and may be made from several threads at once.
  *
- * Where several refusals apply, the first in the order in which they are tested is returned. This is the order:
+ * Where several refusals apply, the first in the order in which they are tested is returned, which is not always the
+ * lowest: 17 is tested before 16. This is the order:
  *
- *     vanplan_read        10, 11, 12, 13, 14, 15, 16, 17
+ *     vanplan_read        10, 11, 12, 13, 14, 15, 17, 16
  *     vanplan_plan        as vanplan_read, then 20, 21
  *     vanplan_price       as vanplan_read, then 22
  *     vanplan_price_row   as vanplan_read, then 22
@@ -31,7 +32,7 @@
 extern "C" {
 #endif
 
-#define VANPLAN_VERSION "0.3.0"
+#define VANPLAN_VERSION "0.4.0"
 
 /* The bytes of the longest task sheet. A caller that reads one byte more sees that its input is longer. */
 #define VANPLAN_MAX_SHEET_BYTES 9638
@@ -65,7 +66,7 @@ enum vanplan_refusal {
     VANPLAN_WRONG_PLACES = 13,  /* a body number or offset is wrong, or the length is not the end of the last body */
     VANPLAN_OUT_OF_RANGE = 14,  /* a task, point, door or least count is out of range, or a watched bit at N or above is set */
     VANPLAN_NO_DOOR = 15,       /* some task has no door */
-    VANPLAN_TOO_LIGHT = 16,     /* the end load plus all negative load changes is below zero */
+    VANPLAN_TOO_LIGHT = 16,     /* some list of tasks that the pairs allow to be open has a load below zero */
     VANPLAN_NO_ORDER = 17,      /* no order of the tasks keeps every pair */
 
     /* of the room for a plan, and for a price */
@@ -107,7 +108,12 @@ enum vanplan_refusal {
  * goes from the point of the start, or the one that the door before was left from, to the point that the door is arrived at,
  * also where they are the same, and costs its distance times the load: the end load and the load changes of all open
  * tasks. A door costs its work, and the charge of each access rule on it of whose watched tasks at least the least count
- * are open. The point that the last door is left from costs its end cost. */
+ * are open. The point that the last door is left from costs its end cost.
+ *
+ * The pairs allow a list of tasks to be open if it has the receiver of each pair whose sender it has. These lists, and
+ * no others, are open on the way of some round, so 16 is for them alone: no leg of a round has a load below zero.
+ * Another list may have one, as the pick-up of a crate without its delivery, where the pick-up is the sender and the
+ * delivery the receiver of a pair. */
 
 /* Reads a task sheet, and tells how much there is to plan.
  *
@@ -128,10 +134,10 @@ uint32_t vanplan_read(const uint8_t *sheet, size_t len, uint64_t *tasks, uint64_
  * Returns 0, or refuses the sheet with 10 to 17 and the room with 20 and 21.
  * 0: the first 32 + 2 N bytes of buf are the cheapest plan. Of plans of equal cost it is the first by start number, then
  * by first door, second door and so on. The bytes of buf from there on are as they were.
- * A list of tasks is a number K below 2^N in which bit j stands for task j. For every list that has the receiver of
- * each pair whose sender it has, the empty list too, and for every point p, cells[K * P + p] is the cost to finish:
- * the least that the rest of a round costs where the van stands at p and the tasks of K are open. All other cells are
- * as they were. Nothing of this depends on what cells and buf held before. */
+ * A list of tasks is a number K below 2^N in which bit j stands for task j. For every list that the pairs allow to be
+ * open, the empty list too, and for every point p, cells[K * P + p] is the cost to finish: the least that the rest of a
+ * round costs where the van stands at p and the tasks of K are open. All other cells are as they were. Nothing of this
+ * depends on what cells and buf held before. */
 uint32_t vanplan_plan(const uint8_t *sheet, size_t len, uint64_t *cells, size_t ncells, uint8_t *buf, size_t buf_len,
                       uint64_t *cost);
 

@@ -27,15 +27,16 @@ pub fn table(time: Duration, counts: &Counts) {
         ("planned", counts.planned()),
         ("planned with a tie", counts.tied),
         ("planned with six tasks or more", counts.long),
+        ("planned where the old 16 refused", counts.taken_aboard),
         ("priced", counts.priced()),
         ("priced with tied starts", counts.starts_tied),
         ("accepted by the validator", counts.accepted()),
         ("differences", counts.differences),
     ] {
-        println!("{name:<31}{:>15}", figure(times));
+        println!("{name:<33}{:>15}", figure(times));
     }
     let a_second = counts.calls() as f64 / time.as_secs_f64();
-    println!("{:<31}{:>15}", "calls a second", figure(a_second as u64));
+    println!("{:<33}{:>15}", "calls a second", figure(a_second as u64));
     for too_few in counts.too_few() {
         println!("too few: {too_few}");
     }

@@ -7,8 +7,9 @@ use std::fmt;
 /// Why a call refused. It wrote nothing then.
 ///
 /// Where several refusals apply, the first in the order in which they are tested is answered; `include/vanplan.h` has
-/// that order for each call. So a sheet that is refused with 14 has none of the faults that are tested before 14, and may
-/// have those that are tested after it. README.md says what a person can do about each.
+/// that order for each call. It is not that of the numbers: 17 is tested before 16. So a sheet that is refused with 14 has
+/// none of the faults that are tested before 14, and may have those that are tested after it. README.md says what a person
+/// can do about each.
 ///
 /// ```
 /// use vanplan::{plan, Refusal};
@@ -38,7 +39,7 @@ pub enum Refusal {
     OutOfRange,
     /// 15: some task has no door.
     NoDoor,
-    /// 16: the end load is less than all that is picked up.
+    /// 16: some list of tasks that the pairs allow to be open has a load below zero.
     TooLight,
     /// 17: no order of the tasks keeps every pair.
     NoOrder,
@@ -95,7 +96,10 @@ impl Refusal {
                 "a task, point, door or least count is out of range, or a task is watched that is not there",
             ),
             Refusal::NoDoor => (15, "some task has no door"),
-            Refusal::TooLight => (16, "the end load is less than all that is picked up"),
+            Refusal::TooLight => (
+                16,
+                "some list of tasks that the pairs allow to be open has a load below zero",
+            ),
             Refusal::NoOrder => (17, "no order of the tasks keeps every pair"),
             Refusal::FewCells => (20, "fewer than 2^N times P work cells are lent"),
             Refusal::ShortBuffer => (21, "the buffer for the plan is shorter than 32 + 2N bytes"),

@@ -4,7 +4,8 @@
 mod common;
 
 use common::examples::{
-    sheet_a, sheet_a_with_end_load, sheet_a_with_pairs, sheet_a_with_rule, PLAN_OF_A,
+    sheet_a, sheet_a_with_end_load, sheet_a_with_end_load_and_pairs, sheet_a_with_pairs,
+    sheet_a_with_rule, PLAN_OF_A,
 };
 use common::finishing::recurse;
 use common::plan::Plan;
@@ -21,12 +22,14 @@ const README: &str = include_str!("../../README.md");
 fn sheets() -> Vec<(&'static str, Vec<u8>)> {
     let mut torn = eight().encode();
     torn.truncate(500);
+    let end_load_2_pair = sheet_a_with_end_load_and_pairs(2, &[(1, 0)]);
     vec![
         ("a", sheet_a().encode()),
         ("a-charge-34", sheet_a_with_rule(2, 1, 34).encode()),
         ("a-charge-50", sheet_a_with_rule(2, 1, 50).encode()),
         ("a-cycle", sheet_a_with_pairs(&[(0, 1), (1, 0)]).encode()),
         ("a-end-load-2", sheet_a_with_end_load(2).encode()),
+        ("a-end-load-2-pair", end_load_2_pair.encode()),
         ("a-end-load-3", sheet_a_with_end_load(3).encode()),
         ("a-pair", sheet_a_with_pairs(&[(1, 0)]).encode()),
         ("a-self-pair", sheet_a_with_pairs(&[(0, 0)]).encode()),
@@ -87,7 +90,7 @@ fn no_other_sheet_is_there() {
     assert_eq!(names, due);
 }
 
-/// What the README says of the two rounds, and document 01 of sheet A's neighbours.
+/// What the README says of the two rounds, and documents 01 and 02 of sheet A's neighbours.
 #[test]
 fn they_are_what_is_said_of_them() {
     let sizes = |sheet: &Sheet| (sheet.tasks.len(), sheet.points.len());
@@ -103,6 +106,7 @@ fn they_are_what_is_said_of_them() {
         ("a-charge-50", "cost 126"),
         ("a-cycle", "refused 17"),
         ("a-end-load-2", "refused 16"),
+        ("a-end-load-2-pair", "cost 70"),
         ("a-end-load-3", "cost 50"),
         ("a-pair", "cost 126"),
         ("a-self-pair", "refused 17"),

@@ -1,10 +1,12 @@
 //! A refusal says its number and what it means, and its name is the same in Rust and in C. The header says in which order
-//! the numbers are tested, and the README what to do about each.
+//! the numbers are tested, and the README too for a sheet, and what to do about each.
 
 mod common;
 
 use common::tested::{JUDGING, PLANNING, PRICING, READING, READING_A_PLAN, WRITING_A_PLAN};
 use vanplan::{read, Refusal};
+
+const README: &str = include_str!("../../README.md");
 
 /// The numbers of documents 01 and 02 that the calls can answer with, and the name of each in C.
 const TABLE: [(u32, Refusal, &str); 16] = {
@@ -62,8 +64,7 @@ fn the_header_has_the_same_names() {
 /// A row of its table has the number, the name in Rust, what it says, in the refusal's own words first, and what to do.
 #[test]
 fn the_readme_has_them_all() {
-    let readme = include_str!("../../README.md");
-    let rows: Vec<Vec<&str>> = readme
+    let rows: Vec<Vec<&str>> = README
         .lines()
         .filter_map(|line| Some(line.strip_prefix("| ")?.split(" | ").collect()))
         .filter(|columns: &Vec<&str>| columns[0].parse::<u32>().is_ok())
@@ -97,6 +98,14 @@ fn the_header_has_the_same_order() {
         let has_it = header.lines().any(|line| line == due);
         assert!(has_it, "the header has no line {due:?}");
     }
+}
+
+#[test]
+fn the_readme_has_the_same_order_for_a_sheet() {
+    let numbers = READING.map(|number| number.to_string());
+    let (last, before) = numbers.split_last().expect("numbers");
+    let due = format!(": {} and {last} for the sheet,", before.join(", "));
+    assert!(README.contains(&due), "the README has no {due:?}");
 }
 
 #[test]

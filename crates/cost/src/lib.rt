@@ -10,7 +10,7 @@ ghost use Rattle.view.specs.Views.{Viewed};
 use view::View;
 
 // The end load and the changes of the open tasks, of any sign. 64 bits hold the sum of any number of changes that a sheet can have.
-pub fn signed_load(s: &[u8], v: View, k: u32) -> i64
+fn signed_load(s: &[u8], v: View, k: u32) -> i64
     requires { ⌜ Viewed (now s) v ⌝ }
     ensures { λ r. ⌜ r ≡ load (decode (now (s .entry))) k ⌝ }
 {

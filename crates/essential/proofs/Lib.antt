@@ -1,3 +1,6 @@
 pub mod Receivers
 pub mod Lightest
-pub mod Lists
+pub mod Stepping
+pub mod Making
+pub mod Senders
+pub mod Looking

@@ -14,7 +14,7 @@ use Rattle.feasible.proofs.Served.{member-with}
 
 -- ---- lists that meet
 
-meets-none : (w K : ℕ) → meets w 0 K ≡ false
+pub meets-none : (w K : ℕ) → meets w 0 K ≡ false
 unfolding meets
 meets-none w K = none-below w (λ j. member 0 j && member K j) (λ j l. rw bit-none)
 
@@ -23,7 +23,7 @@ or-cases true b h f g = f refl
 or-cases false b h f g = g h
 
 module _ (w M x K : ℕ) (l : x < w) where
-  meets-with : meets w (with M x) K ≡ (meets w M K || member K x)
+  pub meets-with : meets w (with M x) K ≡ (meets w M K || member K x)
   unfolding meets
   meets-with = same-test _ _
       (λ h.

@@ -36,7 +36,7 @@ pub fn some_lacks_door(s: &[u8], v: View) -> bool
 }
 
 // What each task waits for: the senders in the pairs whose receiver it is.
-fn senders(s: &[u8], v: View) -> [u32; MAX_TASKS]
+pub fn senders(s: &[u8], v: View) -> [u32; MAX_TASKS]
     requires { ⌜ Viewed (now s) v × ((i : ℕ) → i < decode (now s) .pairs → decode (now s) .receiver i < maxTasks) ⌝ }
     ensures { λ r. ⌜ r ≡ mapBelow maxTasks (sendersOf (decode (now (s .entry)))) ⌝ }
 {

@@ -23,7 +23,7 @@ use Rattle.rank.proofs.Binomials.{binomial-most}
 use Rattle.rank.proofs.Counting.{rank-distinct, rank-most, rank-full, rank-empty, rank-of}
 use Rattle.rank.proofs.Sizes.{size-narrow, full-least}
 use Rattle.rank.proofs.Following.{none-among}
-use Rattle.rank.proofs.Ends.{task-below}
+use Rattle.model.proofs.TaskLists.Lowest.{task-below}
 use Rattle.layers.specs.Layers.{layerCells, CostAtRank, OpenCell, withRow, LayerFilled, ShowsBelow, Shows, Kept}
 
 -- ---- a row written at its place

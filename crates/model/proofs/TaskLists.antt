@@ -2,3 +2,4 @@
 pub mod Masks
 pub mod OpenLists
 pub mod Counting
+pub mod Lowest

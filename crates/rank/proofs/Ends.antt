@@ -1,16 +1,12 @@
--- The lowest and the highest task of a list, by the machine's counts of zeros, and the first tasks of a mask. Assumes nothing.
-use Rattle.model.proofs.Basics.{_≡_, ap, _∙_, ℕ, zero, suc, _+_, _-_, _/_, _%_, _^_, _<_, arith, pow-pos}
+-- The highest task of a list, by the machine's count of zeros, what its lowest one says of its size, and the first tasks of a mask. Assumes nothing.
+use Rattle.model.proofs.Basics.{_≡_, ap, _∙_, ℕ, suc, _+_, _-_, _/_, _%_, _^_, _<_, arith, pow-pos}
 use Rattle.model.specs.{bit, without, size}
-use Rattle.model.proofs.Tools.Tests.{by-last, not-less}
 use Rattle.model.proofs.Tools.Folds.{sum-none}
-use Rattle.model.proofs.TaskLists.Masks.{bit-zero, bit-suc, bit-le, bit-above, without-is, size-is}
+use Rattle.model.proofs.TaskLists.Masks.{bit-le, without-is, size-is}
 use lib.Pow.{field, mod-mod-pow}
-use lib.Count.{trailingZeros, leadingZeros, leading-top}
+use lib.Count.{leadingZeros, leading-top}
+use Rattle.model.proofs.TaskLists.Lowest.{Lowest}
 use Rattle.rank.proofs.Sizes.{size-cong, size-last, size-narrow, joined-last}
-
--- a task of a list of n tasks is below n
-pub task-below : (n K t : ℕ) → K < 2 ^ n → bit K t ≡ 1 → t < n
-task-below n K t l h = not-less n (suc t) (λ (a : n < suc t). omega (arith, bit-above n t K l (omega arith)))
 
 pub without-less : (K t : ℕ) → bit K t ≡ 1 → without K t < K
 without-less K t h = omega (arith, without-is K t h, bit-le t K h, pow-pos t)
@@ -28,23 +24,6 @@ pub size-mask : (n K : ℕ) → size n (K % 2 ^ n) ≡ size n K
 size-mask n K = size-cong n (K % 2 ^ n) K (bit-first n K)
 
 -- ---- the lowest task
-
-pub record Lowest (K t : ℕ) : Type 0 where
-  pub task : bit K t ≡ 1
-  pub none-below : (j : ℕ) → j < t → bit K j ≡ 0
-
-pub lowest : (w K : ℕ) → 0 < K → K < 2 ^ w → Lowest K (trailingZeros w K)
-unfolding trailingZeros
-lowest zero K p h = absurd (omega arith)
-lowest (suc w) K p h = by-last (K % 2) 1 (omega arith)
-    (λ w. rw w (record { task = bit-zero K ∙ w; none-below = λ j l. absurd (omega arith) }))
-    (λ v. let z : K % 2 ≡ 0 = omega arith in
-    let s = lowest w (K / 2) (omega arith) (omega arith) in
-    rw z (record { task = bit-suc K (trailingZeros w (K / 2)) ∙ s .task; none-below = below z s }))
-  where
-    below : K % 2 ≡ 0 → Lowest (K / 2) (trailingZeros w (K / 2)) → (j : ℕ) → j < suc (trailingZeros w (K / 2)) → bit K j ≡ 0
-    below z s zero l = bit-zero K ∙ z
-    below z s (suc j) l = bit-suc K j ∙ s .none-below j (omega arith)
 
 pub lowest-none : {K t : ℕ} → Lowest K t → size t K ≡ 0
 lowest-none {K} {t} s = size-is t K ∙ sum-none t (bit K) (s .none-below)

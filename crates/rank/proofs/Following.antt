@@ -7,7 +7,7 @@ use Rattle.model.proofs.Tools.Tests.{by-test, by-last}
 use Rattle.model.proofs.TaskLists.Masks.{size-is, size-zero}
 use Rattle.rank.specs.Ranks.{NextOfSize}
 use Rattle.rank.proofs.Sizes.{size-narrow, pow-size}
-use Rattle.rank.proofs.Ends.{lowest, task-below}
+use Rattle.model.proofs.TaskLists.Lowest.{lowest, task-below}
 use Rattle.tasklist.proofs.Shifts.{ones-sum, one-bit}
 use native.Mathlib.Nat.{suc-mul, mul-assoc, pow-suc, le-add-right}
 use lib.Pow.{pow-add, shr-lt, shl-shr}

@@ -8,7 +8,8 @@ use Rattle.rank.specs.Binomials.{binomial}
 use Rattle.rank.specs.Ranks.{rank, rankPart, binomialRank}
 use Rattle.rank.proofs.Sums.{sum-differ}
 use Rattle.rank.proofs.Counting.{rank-by-binomials, rank-le}
-use Rattle.rank.proofs.Ends.{Lowest, lowest-none, task-below}
+use Rattle.model.proofs.TaskLists.Lowest.{Lowest, task-below}
+use Rattle.rank.proofs.Ends.{lowest-none}
 
 -- what the tasks of left add
 abbrev added : ℕ → ℕ → ℕ → ℕ

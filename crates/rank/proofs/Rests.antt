@@ -13,7 +13,8 @@ use Rattle.rank.specs.Ranks.{rank, rankPart, binomialRank, maxRanked, ra
 use Rattle.rank.proofs.Sums.{sum-differ}
 use Rattle.rank.proofs.Sizes.{size-cong}
 use Rattle.rank.proofs.Counting.{part-cong, rank-by-binomials, rank-le}
-use Rattle.rank.proofs.Ends.{Highest, highest-size, task-below, bit-first}
+use Rattle.model.proofs.TaskLists.Lowest.{task-below}
+use Rattle.rank.proofs.Ends.{Highest, highest-size, bit-first}
 
 -- ---- the sum
 

@@ -37,7 +37,8 @@ pub struct Entry<F> {
     pub maker: Maker,
     /// The compiler's name, or Rattle.
     pub by: &'static str,
-    /// How doors are gathered and points are taken, where that differs.
+    /// How doors are gathered and points are taken; of reading how it gets the load of a list, and how it knows an
+    /// essential one. None where all are alike.
     pub shape: Option<[&'static str; 2]>,
     pub call: F,
 }
@@ -95,16 +96,23 @@ extern "C" {
     static baseline_count: usize;
 }
 
-/// `struct build` and `struct way` of `baseline/baseline.h`.
+/// `struct build`, `struct look` and `struct way` of `baseline/baseline.h`.
 #[repr(C)]
 struct Build {
     compiler: *const c_char,
     version: *const c_char,
     target: *const c_char,
-    read: Read,
+    looks: [Look; 2],
     validate: Validate,
     triple_loop: Plan,
     ways: [Way; 7],
+}
+
+#[repr(C)]
+struct Look {
+    loads: *const c_char,
+    essential: *const c_char,
+    read: Read,
 }
 
 #[repr(C)]
@@ -164,7 +172,12 @@ impl Calls {
             "native" => Maker::NativeC,
             _ => Maker::C,
         };
-        self.reads.push(entry(maker, by, build.read));
+        for look in &build.looks {
+            self.reads.push(Entry {
+                shape: Some([text(look.loads), text(look.essential)]),
+                ..entry(maker, by, look.read)
+            });
+        }
         self.validates.push(entry(maker, by, build.validate));
         for way in &build.ways {
             let shape = Some([text(way.gathering), text(way.points)]);

@@ -10,7 +10,7 @@ use std::collections::BTreeMap;
 
 /// Every number that a call can answer with; 0 stands for no refusal.
 const NUMBERS: [u32; 17] = [
-    0, 10, 11, 12, 13, 14, 15, 16, 17, 20, 21, 22, 30, 31, 32, 33, 34,
+    0, 10, 11, 12, 13, 14, 15, 17, 16, 20, 21, 22, 30, 31, 32, 33, 34,
 ];
 
 /// What a call answers, and what then stands in each place that it was lent.

@@ -18,28 +18,30 @@ mod time;
 use calls::Calls;
 use compare::Comparison;
 use races::Races;
+use sheets::Subjects;
 use std::env;
 use std::process::ExitCode;
 
 fn main() -> ExitCode {
     let calls = Calls::all();
-    let (worst, middle, longest) = (sheets::worst(), sheets::middle(), sheets::longest());
+    let subjects = Subjects::new();
     let mut comparison = Comparison::default();
-    for subject in [&worst, &middle, &longest] {
+    for subject in subjects.all() {
         comparison.all(&calls, subject);
     }
     cases::compare_small(&calls, &mut comparison);
+    cases::compare_light(&calls, &mut comparison);
     if !comparison.passed() {
         return ExitCode::FAILURE;
     }
     let rounds = rounds();
-    let mut races = Races::new(&calls, &worst, &middle, &longest);
+    let mut races = Races::new(&calls, &subjects);
     (0..rounds).for_each(|_| races.round());
     println!("C by {}", calls::compilers().join(" and by "));
     println!("least of {rounds} runs or more, taken in turn; processor time of the one thread");
     println!("buffers are not cleared between runs");
     let rows = races.rows();
-    report::print(&rows, &[&worst, &middle]);
+    report::print(&rows, &[&subjects.worst, &subjects.middle]);
     goals::print(&rows);
     ExitCode::SUCCESS
 }

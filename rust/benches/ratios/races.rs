@@ -1,10 +1,10 @@
-//! What is timed: each call on two sheets.
+//! What is timed: each call on two sheets, and reading on two more.
 
 use crate::calls::{self, Calls, Entry, Plan, Price, Read, Validate};
 use crate::common::plan::{plan_len, MOST_TASKS};
 use crate::report::Row;
 use crate::rooms::{MOST_CELLS, MOST_LAYER_CELLS};
-use crate::sheets::Subject;
+use crate::sheets::{Subject, Subjects};
 use crate::time::Race;
 use std::hint::black_box;
 
@@ -14,29 +14,35 @@ const PASSES: usize = 2;
 /// Calls of a batch of readings or validations.
 const BATCH: usize = 2_000;
 
+/// And of readings that look at every list.
+const SHORT_BATCH: usize = 10;
+
 pub struct Races<'a> {
     planning: [Race<'a, Plan>; 2],
     pricing: [Race<'a, Price>; 2],
     triple_loops: [Race<'a, Plan>; 2],
-    reading: [Race<'a, Read>; 2],
+    reading: [Race<'a, Read>; 4],
     validating: [Race<'a, Validate>; 2],
 }
 
-/// The rows of planning and of pricing, each on the worst and middle case; and those of reading, then of validating,
-/// each on the longest and middle sheet.
+/// The rows of planning and of pricing, each on the worst and middle case; and those of reading and of validating, each
+/// on the longest and middle sheet, of reading also on the laden and the light one.
 pub struct Rows {
-    pub planning: Vec<Row>,
-    pub pricing: Vec<Row>,
-    pub others: Vec<Row>,
+    pub planning: [Row; 2],
+    pub pricing: [Row; 2],
+    pub reading: [Row; 4],
+    pub validating: [Row; 2],
 }
 
 impl<'a> Races<'a> {
-    pub fn new(
-        calls: &'a Calls,
-        worst: &'a Subject,
-        middle: &'a Subject,
-        longest: &'a Subject,
-    ) -> Races<'a> {
+    pub fn new(calls: &'a Calls, subjects: &'a Subjects) -> Races<'a> {
+        let Subjects {
+            worst,
+            middle,
+            longest,
+            laden,
+            light,
+        } = subjects;
         Races {
             planning: [
                 planning("planning, worst case", &calls.plans, worst, 1),
@@ -51,8 +57,10 @@ impl<'a> Races<'a> {
                 planning("triple loop", &calls.triple_loops, middle, 10),
             ],
             reading: [
-                reading("reading, longest sheet", calls, longest),
-                reading("reading, middle sheet", calls, middle),
+                reading("reading, longest sheet", calls, longest, BATCH),
+                reading("reading, middle sheet", calls, middle, BATCH),
+                reading("reading, lightest list holds", calls, laden, BATCH),
+                reading("reading, every list looked at", calls, light, SHORT_BATCH),
             ],
             validating: [
                 validating("validating, longest sheet", calls, longest),
@@ -72,14 +80,12 @@ impl<'a> Races<'a> {
     }
 
     pub fn rows(&self) -> Rows {
-        let pairs = self.planning.iter().zip(&self.triple_loops);
-        let planning = pairs.map(|(race, triple_loops)| Row::of(race).and(triple_loops));
-        let reading = self.reading.iter().map(Row::of);
-        let validating = self.validating.iter().map(Row::of);
+        let planning = [0, 1].map(|i| Row::of(&self.planning[i]).and(&self.triple_loops[i]));
         Rows {
-            planning: planning.collect(),
-            pricing: self.pricing.iter().map(Row::of).collect(),
-            others: reading.chain(validating).collect(),
+            planning,
+            pricing: self.pricing.each_ref().map(Row::of),
+            reading: self.reading.each_ref().map(Row::of),
+            validating: self.validating.each_ref().map(Row::of),
         }
     }
 }
@@ -115,9 +121,14 @@ fn pricing<'a>(
     })
 }
 
-fn reading<'a>(title: &'static str, calls: &'a Calls, subject: &'a Subject) -> Race<'a, Read> {
+fn reading<'a>(
+    title: &'static str,
+    calls: &'a Calls,
+    subject: &'a Subject,
+    batch: usize,
+) -> Race<'a, Read> {
     let (mut tasks, mut points) = (0, 0);
-    Race::new(title, &calls.reads, BATCH, move |call| {
+    Race::new(title, &calls.reads, batch, move |call| {
         let number = calls::read(call, black_box(&subject.sheet), &mut tasks, &mut points);
         assert_eq!(number, 0);
     })

@@ -12,8 +12,8 @@ pub struct Timed {
     pub by: &'static str,
     pub seconds: f64,
     name: String,
-    /// One pass over the rules and one over the doors for each list, which is what the goal is set by; reading and
-    /// validating have no other shape.
+    /// What the goal is set by: for each list one pass over the rules and one over the doors; to read, its load as a
+    /// sum over its tasks, and the pairs one by one. Validating has no other shape.
     pub plain: bool,
 }
 
@@ -40,7 +40,10 @@ impl Row {
             by: entry.by,
             seconds,
             name: entry.name(),
-            plain: matches!(entry.shape, None | Some(["branches", _])),
+            plain: matches!(
+                entry.shape,
+                None | Some(["branches", _] | ["sums", "pairs"])
+            ),
         });
         self.timed.extend(timed);
         self
@@ -101,13 +104,15 @@ pub fn print(rows: &Rows, subjects: &[&Subject]) {
     let Rows {
         planning,
         pricing,
-        others,
+        reading,
+        validating,
     } = rows;
+    let others = reading.iter().chain(validating);
     println!();
     print_ratios(planning.iter().chain(pricing).chain(others));
     println!();
     print_beside(subjects, planning, pricing);
-    for rows in [planning, pricing, others] {
+    for rows in [&planning[..], pricing, reading, validating] {
         println!();
         print_details(rows);
     }

@@ -54,6 +54,14 @@ pub fn sheet_a_with_pairs(pairs: &[(u16, u16)]) -> Sheet {
     }
 }
 
+/// Sheet A with another end load and pairs.
+pub fn sheet_a_with_end_load_and_pairs(end_load: u16, pairs: &[(u16, u16)]) -> Sheet {
+    Sheet {
+        end_load,
+        ..sheet_a_with_pairs(pairs)
+    }
+}
+
 /// Sheet A with one more access rule, on door 0.
 pub fn sheet_a_with_rule(watched: u16, least: u16, charge: u32) -> Sheet {
     let rule = Rule {

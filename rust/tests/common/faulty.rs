@@ -1,11 +1,12 @@
 //! Random sheets with exactly the faults that are asked for, put into sheets that read.
 
 use super::layout::{body_number, offset, Field, HEAD, KIND};
+use super::lists::{essential, least_end_load, load};
 use super::reading::faults;
 use super::rng::Rng;
 use super::sheet::{Door, Rule, Sheet};
 use super::tested::{all_applying, in_order, READING};
-use super::valid::{valid, ROOMY};
+use super::valid::{draw_end_load, valid, ROOMY};
 
 /// The numbers that can apply to a sheet of at least 46 bytes, in the order in which they are tested.
 pub fn all_but_10() -> Vec<u32> {
@@ -19,17 +20,10 @@ pub fn can_come_together(one: u32, other: u32) -> bool {
     (one != 10 && other != 10) || (of_the_head(one) && of_the_head(other))
 }
 
-/// A sheet of at least 46 bytes to which exactly these numbers, each from 11 to 17, apply.
-///
-/// Faults 12, 15, 16, 17 and 14 are put into the lists, in this order because ranges depend on the numbers of
-/// entries; 11 and 13 are put into the bytes.
+/// A sheet of at least 46 bytes to which exactly these numbers, each from 11 to 17, apply: 11 and 13 are put into the
+/// bytes, the others into the lists.
 pub fn with_faults(rng: &mut Rng, numbers: &[u32]) -> Vec<u8> {
-    let mut sheet = valid(rng, ROOMY);
-    for number in [12, 15, 16, 17, 14] {
-        if numbers.contains(&number) {
-            put_into_lists(rng, &mut sheet, number, numbers);
-        }
-    }
+    let sheet = lists_with_faults(rng, numbers);
     let mut bytes = sheet.encode();
     if numbers.contains(&11) {
         KIND.put(&mut bytes, wrong_kind(rng));
@@ -63,14 +57,37 @@ pub fn short_with_faults(rng: &mut Rng, numbers: &[u32]) -> Vec<u8> {
     panic!("no sheet with the faults {due:?} in {TRIES} tries");
 }
 
+/// Faults 12, 15, 17 and 14 are put in, in this order because ranges depend on the numbers of entries, and 16 behind
+/// them, because the pairs tell which lists it speaks of. They may come to allow none; then another sheet is drawn.
+fn lists_with_faults(rng: &mut Rng, numbers: &[u32]) -> Sheet {
+    const TRIES: usize = 1_000;
+    for _ in 0..TRIES {
+        let mut sheet = valid(rng, ROOMY);
+        for number in [12, 15, 17, 14] {
+            if numbers.contains(&number) {
+                put_into_lists(rng, &mut sheet, number, numbers);
+            }
+        }
+        if !numbers.contains(&16) {
+            // The lists that the pairs allow may be others now.
+            draw_end_load(rng, &mut sheet);
+            return sheet;
+        }
+        if !essential(&sheet).is_empty() {
+            make_too_light(rng, &mut sheet);
+            return sheet;
+        }
+    }
+    panic!("no sheet with the faults {numbers:?} in {TRIES} tries");
+}
+
 fn put_into_lists(rng: &mut Rng, sheet: &mut Sheet, number: u32, numbers: &[u32]) {
     match number {
         12 => wrong_number_of_entries(rng, sheet),
         14 => out_of_range(rng, sheet, numbers),
         15 => task_without_door(rng, sheet),
-        16 => load_below_zero(rng, sheet),
         17 => cycle(rng, sheet),
-        _ => unreachable!("{number} is not a fault of the lists"),
+        _ => unreachable!("{number} is not put in here"),
     }
 }
 
@@ -171,15 +188,23 @@ fn task_without_door(rng: &mut Rng, sheet: &mut Sheet) {
     }
 }
 
-/// One task becomes a pick-up, and the end load less than all pick-ups.
-fn load_below_zero(rng: &mut Rng, sheet: &mut Sheet) {
-    let task = rng.below(sheet.tasks.len());
-    sheet.tasks[task] = -(rng.between(1, 40_000).min(32_768) as i32) as i16;
-    let too_much = sheet.picked_up().min(65_536) as usize - 1;
+/// Of some essential list, of which there is one, so many tasks become pick-ups that they bring its load down, and the
+/// end load is too little for some such list.
+pub fn make_too_light(rng: &mut Rng, sheet: &mut Sheet) {
+    let list = rng.pick(&essential(sheet));
+    let mut tasks = rng.order(sheet.tasks.len());
+    tasks.retain(|task| list >> task & 1 == 1);
+    sheet.end_load = 0;
+    for task in tasks {
+        if load(sheet, list) >= 0 {
+            sheet.tasks[usize::from(task)] = -(rng.between(1, 40_000).min(32_768) as i32) as i16;
+        }
+    }
+    let too_little = least_end_load(sheet).min(65_536) as usize - 1;
     sheet.end_load = if rng.one_in(2) {
-        too_much
+        too_little
     } else {
-        rng.between(0, too_much)
+        rng.between(0, too_little)
     } as u16;
 }
 

@@ -1,8 +1,9 @@
 //! Planning by a recursion over the open list and the point, which keeps each figure that it has found, for sheets with
 //! more rounds than can be tried. The tests of planning compare it with the enumeration.
 
+use super::lists::is_allowed;
 use super::plan::Plan;
-use super::rounds::{is_allowed, Due};
+use super::rounds::Due;
 use super::sheet::{Rule, Sheet};
 
 /// Plans a sheet that reads.

@@ -1,5 +1,5 @@
 //! What the tests share: sheets and plans made in Rust, a reading, a judging and a planning of them written from
-//! document 01 alone, a pricing from document 02, the comparison of readings, and the hardening of every call.
+//! documents 01 and 02 alone, a pricing from 02, the comparison of readings, and the hardening of every call.
 
 // Every test program covers its own calls, and none of them uses all of this.
 #![allow(dead_code)]
@@ -16,6 +16,7 @@ pub mod interface;
 pub mod judging;
 pub mod layout;
 pub mod lent;
+pub mod lists;
 pub mod lively;
 pub mod orders;
 pub mod plan;

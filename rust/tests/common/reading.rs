@@ -1,6 +1,7 @@
-//! A plain reading of a task sheet, written from document 01 alone: each number has its own test, and the first that
-//! applies, in the order in which they are tested, is the answer.
+//! A plain reading of a task sheet, written from documents 01 and 02 alone: each number has its own test, and the first
+//! that applies, in the order in which they are tested, is the answer.
 
+use super::lists::{some_essential_is_too_light, MOST_LISTED};
 use super::orders::some_order;
 use super::sheet::{Door, Rule, Sheet};
 use super::tested::{all_applying, first_applying, READING};
@@ -32,6 +33,7 @@ pub fn reading(sheet: &[u8]) -> Result<(u64, u64), u32> {
 ///
 /// This decides more than the answer does. A number applies only by what is there: nothing is said of a field that
 /// the sheet is too short for, and the bodies stand where the numbers of entries put them, whatever the offsets are.
+/// Nothing is said of 16 for more than 16 tasks, whose lists are too many to look at; 12 applies there.
 pub fn faults(sheet: &[u8]) -> Vec<u32> {
     let mut asked = Asked::of(sheet);
     all_applying(&READING, |number| asked.applies(number))
@@ -62,7 +64,7 @@ impl Asked<'_> {
             _ if self.bytes.len() < HEAD => false,
             14 => self.something_is_out_of_range(),
             15 => self.some_task_has_no_door(),
-            16 => self.lists().end_load_after_pick_ups() < 0,
+            16 => self.some_essential_list_is_too_light(),
             17 => !some_order(self.count(1).into(), &self.lists().pairs),
             _ => panic!("reading never answers {number}"),
         }
@@ -138,6 +140,11 @@ impl Asked<'_> {
         (0..tasks).any(|task| lists.doors.iter().all(|door| door.task != task))
     }
 
+    fn some_essential_list_is_too_light(&mut self) -> bool {
+        let listed = usize::from(self.count(1)) <= MOST_LISTED;
+        listed && some_essential_is_too_light(self.lists())
+    }
+
     fn lists(&mut self) -> &Sheet {
         if self.lists.is_none() {
             self.lists = Some(self.decode());
@@ -182,12 +189,5 @@ impl Asked<'_> {
             points: self.entries(6).map(|e| u32_at(e, 0)).collect(),
             distances: self.entries(7).map(|e| u16_at(e, 0)).collect(),
         }
-    }
-}
-
-impl Sheet {
-    /// E plus all negative w.
-    fn end_load_after_pick_ups(&self) -> i64 {
-        i64::from(self.end_load) + self.tasks.iter().map(|&w| i64::from(w.min(0))).sum::<i64>()
     }
 }

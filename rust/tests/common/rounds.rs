@@ -2,6 +2,7 @@
 //! of each is tried, and every round is costed by itself.
 
 use super::judging::cost_from;
+use super::lists::is_allowed;
 use super::plan::Plan;
 use super::sheet::Sheet;
 
@@ -21,13 +22,6 @@ pub struct Ties {
     pub starts: usize,
     /// How many there are from the first of these starts.
     pub doors: usize,
-}
-
-/// The lists that the pairs allow, essential or empty: one that holds a pair's sender holds its receiver.
-pub fn is_allowed(sheet: &Sheet, list: usize) -> bool {
-    let holds = |task: u16| list >> task & 1 == 1;
-    let mut pairs = sheet.pairs.iter();
-    pairs.all(|&(sender, receiver)| !holds(sender) || holds(receiver))
 }
 
 /// Plans a sheet that reads; small ones only, since all rounds are tried.

@@ -35,8 +35,13 @@ pub struct Rule {
 }
 
 impl Sheet {
-    /// How far all pick-ups together bring the load down: the end load E must be at least that.
+    /// How far all pick-ups together bring the load down: an end load E of at least that is enough, whatever the pairs.
     pub fn picked_up(&self) -> i64 {
         -self.tasks.iter().map(|&w| i64::from(w).min(0)).sum::<i64>()
+    }
+
+    /// The old 16, up to version 0.3.0: E plus all negative w is below zero. Sheets are drawn and counted by it.
+    pub fn old_16_applies(&self) -> bool {
+        i64::from(self.end_load) < self.picked_up()
     }
 }

@@ -1,12 +1,12 @@
-//! The order in which each call tests its numbers, written from document 01, and of pricing from 02: of several that apply, the first in this
-//! order is the answer. Whatever decides between several numbers takes the order from here, and nothing leans on the
+//! The order in which each call tests its numbers, written from documents 01 and 02: of several that apply, the first in
+//! this order is the answer. Whatever decides between several numbers takes the order from here, and nothing leans on the
 //! numbers rising. Examples worked by hand tell their number themselves, so that a wrong list shows.
 
 /// What a call returns that refuses nothing.
 pub const ACCEPTED: u32 = 0;
 
-/// Reading a task sheet.
-pub const READING: [u32; 8] = [10, 11, 12, 13, 14, 15, 16, 17];
+/// Reading a task sheet. Which lists 16 speaks of hangs on the pairs, so it comes behind 17.
+pub const READING: [u32; 8] = [10, 11, 12, 13, 14, 15, 17, 16];
 
 /// Planning, which reads first: these stand behind those of reading.
 pub const PLANNING: [u32; 2] = [20, 21];

@@ -1,5 +1,7 @@
-//! Random sheets that read: every number is drawn from the whole range that document 01 allows it.
+//! Random sheets that read: every number is drawn from the whole range that documents 01 and 02 allow it. In a good part
+//! of those with pairs all pick-ups together are more than the end load, which the pairs make enough.
 
+use super::lists::least_end_load;
 use super::rng::Rng;
 use super::sheet::{Door, Rule, Sheet};
 
@@ -71,13 +73,42 @@ pub fn valid(rng: &mut Rng, size: Size) -> Sheet {
         points: (0..p).map(|_| rng.u32()).collect(),
         distances: (0..p * p).map(|_| rng.u16()).collect(),
     };
-    let lightest = sheet.picked_up() as usize;
-    sheet.end_load = match rng.below(4) {
-        0 => lightest,
-        1 => usize::from(u16::MAX),
-        _ => rng.between(lightest, u16::MAX.into()),
-    } as u16;
+    if rng.one_in(2) {
+        let heaviest = rng.pick(&[3, 1_000, i16::MAX as usize]);
+        take_aboard(rng, &mut sheet, heaviest);
+    }
+    draw_end_load(rng, &mut sheet);
     sheet
+}
+
+/// Some senders pick up what their receivers deliver, up to the heaviest crate; now and then a kilogram more or less.
+fn take_aboard(rng: &mut Rng, sheet: &mut Sheet, heaviest: usize) {
+    for (sender, receiver) in sheet.pairs.clone() {
+        if rng.one_in(2) {
+            continue;
+        }
+        let weight = rng.between(1, heaviest) as i16;
+        let more = rng.pick(&[0, 0, 0, 1, -1]);
+        sheet.tasks[usize::from(sender)] = -weight;
+        sheet.tasks[usize::from(receiver)] = weight.saturating_add(more);
+    }
+}
+
+/// Draws an end load that is enough for every essential list. Where it need not be as much as all pick-ups together, it
+/// often is not. Pick-ups that are too much for any end load are left out.
+pub fn draw_end_load(rng: &mut Rng, sheet: &mut Sheet) {
+    const MOST: usize = u16::MAX as usize;
+    while least_end_load(sheet) > MOST as i64 {
+        let pick_up = sheet.tasks.iter_mut().find(|w| **w < 0);
+        *pick_up.expect("a list is too light by a pick-up") = 0;
+    }
+    let (least, picked_up) = (least_end_load(sheet) as usize, sheet.picked_up() as usize);
+    sheet.end_load = match rng.below(6) {
+        0 => least,
+        1 => MOST,
+        2 | 3 if least < picked_up => rng.between(least, MOST.min(picked_up - 1)),
+        _ => rng.between(least, MOST),
+    } as u16;
 }
 
 fn draw(rng: &mut Rng, (fewest, most): (usize, usize)) -> usize {
@@ -140,13 +171,16 @@ fn rule(rng: &mut Rng, n: usize, doors: usize) -> Rule {
     }
 }
 
-/// Sets load changes to -3 to 3, the end load to little more than needed, and every other number that a cost is made of
+/// Sets load changes to -3 to 4, the end load to little more than needed, and every other number that a cost is made of
 /// to one below the limit.
 pub fn make_small(rng: &mut Rng, sheet: &mut Sheet, limit: usize) {
     for w in &mut sheet.tasks {
         *w = rng.below(7) as i16 - 3;
     }
-    sheet.end_load = sheet.picked_up() as u16 + rng.below(4) as u16;
+    if rng.one_in(2) {
+        take_aboard(rng, sheet, 3);
+    }
+    sheet.end_load = least_end_load(sheet) as u16 + rng.below(4) as u16;
     for door in &mut sheet.doors {
         door.work = rng.below(limit) as u32;
     }

@@ -23,8 +23,8 @@ fn try_case(case: &Case, seed: u64, memory: &mut Memory, counts: &mut Counts) {
     }
 }
 
-/// In proportion to their number, at least as many of each answer, planned, tied, long, priced and accepted as `./fuzz` has to
-/// show in ten million calls.
+/// In proportion to their number, at least as many of each answer, planned, tied, long, planned where the old 16 refused,
+/// priced and accepted as `./fuzz` has to show in ten million calls.
 #[test]
 fn any_sheets_and_plans() {
     let (mut memory, mut counts) = (Memory::new(), Counts::default());
@@ -50,7 +50,7 @@ fn the_largest_sheets() {
 #[test]
 fn what_was_not_met_is_told() {
     let (mut memory, mut counts) = (Memory::new(), Counts::default());
-    let all = 6 + 9 + 11 + 10 + 10 + 14 + 3 + 3;
+    let all = 7 + 9 + 11 + 10 + 10 + 14 + 3 + 3;
     assert_eq!(counts.too_few().len(), all);
     for (seed, case) in (0..10).zip(some_cases()) {
         try_case(case, seed, &mut memory, &mut counts);

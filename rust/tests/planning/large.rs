@@ -2,8 +2,8 @@
 
 use super::calls::{check_own_room, expect, needed, Room};
 use crate::common::finishing::recurse;
+use crate::common::lists::is_allowed;
 use crate::common::rng::Rng;
-use crate::common::rounds::is_allowed;
 use crate::common::sheet::Sheet;
 use crate::common::valid::{longest, make_small, valid, Size, ANY};
 

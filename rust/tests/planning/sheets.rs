@@ -1,5 +1,6 @@
 //! Random sheets to plan: small ones with many rounds of equal cost, and some that are refused.
 
+use crate::common::lists::least_end_load;
 use crate::common::reading::reading;
 use crate::common::rng::Rng;
 use crate::common::rounds::{enumerate, Due, Ties};
@@ -16,7 +17,7 @@ pub fn small_or_refused(rng: &mut Rng) -> Sheet {
         sheet.pairs.push((receiver, sender));
     }
     if rng.one_in(8) {
-        sheet.end_load = (sheet.picked_up() - 1).max(0) as u16;
+        sheet.end_load = (least_end_load(&sheet) - 1).max(0) as u16;
     }
     sheet
 }

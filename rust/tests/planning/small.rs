@@ -7,25 +7,28 @@ use crate::common::finishing::recurse;
 use crate::common::judging::judging_for;
 use crate::common::rng::Rng;
 use crate::common::rounds::{Due, Ties};
+use crate::common::sheet::Sheet;
 use crate::common::tally::Times;
 use crate::common::valid::{valid, SMALL};
 
 /// How many sheets were planned, and how many of them had several cheapest starts, several cheapest rounds from the
-/// first of these, and lists that are not essential.
+/// first of these, lists that are not essential, and an end load for which the old 16 refused them.
 #[derive(Debug, Default)]
 struct Met {
     planned: usize,
     starts_tied: usize,
     doors_tied: usize,
     lists_left_out: usize,
+    taken_aboard: usize,
 }
 
 impl Met {
-    fn add(&mut self, due: &Due, ties: &Ties) {
+    fn add(&mut self, sheet: &Sheet, due: &Due, ties: &Ties) {
         self.planned += 1;
         self.starts_tied += usize::from(ties.starts > 1);
         self.doors_tied += usize::from(ties.doors > 1);
         self.lists_left_out += usize::from(due.cells.contains(&None));
+        self.taken_aboard += usize::from(sheet.old_16_applies());
     }
 }
 
@@ -63,18 +66,18 @@ fn small_random_sheets() {
             let judged = judging_for(&sheet, &due.plan.encode());
             assert_eq!(judged, Ok(due.plan.cost), "{case}: {sheet:?}");
         }
-        let sheet = sheet.encode();
+        let bytes = sheet.encode();
         match &due {
             Ok((due, ties)) => {
-                met.add(due, ties);
-                plan_in_rooms(&mut rng, &sheet, due, &mut times, seed);
-                check_own_room(&sheet, Ok(due), case);
+                met.add(&sheet, due, ties);
+                plan_in_rooms(&mut rng, &bytes, due, &mut times, seed);
+                check_own_room(&bytes, Ok(due), case);
             }
             &Err(number) => {
                 let (cells, plan) = (rng.below(200), rng.below(60));
                 let room = Room::noise(&mut rng, cells, plan);
-                times.add(check(&sheet, Err(number), &room, case));
-                check_own_room(&sheet, Err(number), case);
+                times.add(check(&bytes, Err(number), &room, case));
+                check_own_room(&bytes, Err(number), case);
             }
         }
     }
@@ -83,4 +86,5 @@ fn small_random_sheets() {
     assert!(met.starts_tied >= 200, "{met:?}");
     assert!(met.doors_tied >= 200, "{met:?}");
     assert!(met.lists_left_out >= 200, "{met:?}");
+    assert!(met.taken_aboard >= 200, "{met:?}");
 }

@@ -1,6 +1,7 @@
 //! Small random sheets against the plain enumeration, with layers of just enough cells, too few and more.
 
 use super::calls::{check, check_own_room, expect, layer_cells, Layers};
+use crate::common::lists::least_end_load;
 use crate::common::lively::small;
 use crate::common::pricing::{tied_starts, EVEN, ODD};
 use crate::common::reading::reading;
@@ -11,7 +12,7 @@ use crate::common::tally::Times;
 use crate::common::valid::{valid, SMALL};
 
 /// How many sheets were priced, and how many of them had several cheapest starts, some of these at different points, an
-/// even and an odd number of tasks, and lists that the pairs do not allow.
+/// even and an odd number of tasks, lists that the pairs do not allow, and an end load for which the old 16 refused them.
 #[derive(Debug, Default)]
 struct Met {
     priced: usize,
@@ -20,6 +21,7 @@ struct Met {
     even: usize,
     odd: usize,
     lists_left_out: usize,
+    taken_aboard: usize,
 }
 
 impl Met {
@@ -32,6 +34,7 @@ impl Met {
         self.even += usize::from(sheet.tasks.len() % 2 == EVEN);
         self.odd += usize::from(sheet.tasks.len() % 2 == ODD);
         self.lists_left_out += usize::from(due.cells.contains(&None));
+        self.taken_aboard += usize::from(sheet.old_16_applies());
     }
 }
 
@@ -71,7 +74,7 @@ fn some_sheet(rng: &mut Rng) -> Sheet {
         sheet.pairs.push((receiver, sender));
     }
     if rng.one_in(12) {
-        sheet.end_load = (sheet.picked_up() - 1).max(0) as u16;
+        sheet.end_load = (least_end_load(&sheet) - 1).max(0) as u16;
     }
     sheet
 }
@@ -105,4 +108,5 @@ fn small_random_sheets() {
     assert!(met.points_tied >= 100, "{met:?}");
     assert!(met.even.min(met.odd) >= 300, "{met:?}");
     assert!(met.lists_left_out >= 300, "{met:?}");
+    assert!(met.taken_aboard >= 100, "{met:?}");
 }

@@ -4,7 +4,7 @@
 use super::program::{check, refuses};
 use crate::common::examples::{plain, sheet_a, Entries, FEWEST};
 use crate::common::faulty::{
-    all_but_10, can_come_together, short_with_faults, with_fault, with_faults,
+    all_but_10, can_come_together, make_too_light, short_with_faults, with_fault, with_faults,
 };
 use crate::common::layout::{body_number, entries, offset, KIND};
 use crate::common::reading::faults;
@@ -127,7 +127,10 @@ fn too_few_cells_and_a_fault() {
             (14, with(&|sheet| sheet.doors[0].arrival = points)),
             (14, with(&|sheet| sheet.pairs = vec![(0, tasks)])),
             (15, with(&|sheet| give_away_task_0(sheet))),
-            (16, with(&|sheet| make_too_light(sheet))),
+            (
+                16,
+                with(&|sheet| make_too_light(&mut Rng::new(seed), sheet)),
+            ),
             (17, with(&|sheet| sheet.pairs = vec![(0, 1), (1, 0)])),
         ] {
             refuses(number, &input, format_args!("seed {seed}"));
@@ -139,11 +142,6 @@ fn give_away_task_0(sheet: &mut Sheet) {
     for door in sheet.doors.iter_mut().filter(|door| door.task == 0) {
         door.task = 1;
     }
-}
-
-fn make_too_light(sheet: &mut Sheet) {
-    sheet.tasks[0] = -1;
-    sheet.end_load = (sheet.picked_up() - 1).min(65_535) as u16;
 }
 
 /// Each of these fields of sheet A is set to a value that is wrong for it.

@@ -66,6 +66,19 @@ fn a_with_other_end_loads() {
     prints_for(&sheet_a_with_end_load(3), &doors_0_1(2 * 5 + 4 + 6 + 30));
 }
 
+/// What task 1 picks up is delivered in the round where it is done before task 0; the other way round it is not.
+#[test]
+fn a_with_end_load_2_and_pairs() {
+    let with_pairs = |pairs| sheet_a_with_end_load_and_pairs(2, pairs);
+    let cost = 3 * 4 + 6 + 4 * 7 + 4 + 20;
+    let lines = DOORS_1_0.replace("126", &cost.to_string());
+    prints_for(&with_pairs(&[(1, 0)]), &lines);
+    refuses_for(&with_pairs(&[]), 16);
+    refuses_for(&with_pairs(&[(0, 1)]), 16);
+    refuses_for(&with_pairs(&[(0, 0)]), 17);
+    refuses_for(&with_pairs(&[(0, 1), (1, 0)]), 17);
+}
+
 /// From point 1 the cost is 68 and from point 2 it is 90: the start's number in body 3 is printed, and not its point.
 #[test]
 fn a_with_other_starts() {

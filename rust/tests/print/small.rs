@@ -10,7 +10,7 @@ use crate::common::tally::Times;
 use std::collections::BTreeMap;
 
 /// What is to be met often, and whether a sheet and its plan have it.
-fn kinds(sheet: &Sheet, plan: &Plan, ties: &Ties) -> [(&'static str, bool); 7] {
+fn kinds(sheet: &Sheet, plan: &Plan, ties: &Ties) -> [(&'static str, bool); 8] {
     let in_order = plan.doors.windows(2).all(|two| two[0] < two[1]);
     [
         ("several cheapest starts", ties.starts > 1),
@@ -18,6 +18,7 @@ fn kinds(sheet: &Sheet, plan: &Plan, ties: &Ties) -> [(&'static str, bool); 7] {
         ("pairs", !sheet.pairs.is_empty()),
         ("rules", !sheet.rules.is_empty()),
         ("pick-ups", sheet.tasks.iter().any(|&w| w < 0)),
+        ("refused by the old 16", sheet.old_16_applies()),
         ("another start than the first", plan.start > 0),
         ("doors that are not in the sheet's order", !in_order),
     ]

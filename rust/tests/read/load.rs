@@ -1,4 +1,5 @@
-//! The lightest load, E plus all negative w, at zero and below.
+//! The lightest load at zero and below. There are no pairs, so that every list is essential, and the lightest is that of
+//! all pick-ups: E plus all negative w.
 
 use crate::common::check::{expect, Tally};
 use crate::common::examples::{plain, Entries, MIDDLE};
@@ -41,7 +42,7 @@ fn one_task_of_every_load_change() {
 
 #[test]
 fn deliveries_do_not_make_up_for_pick_ups() {
-    // A plan may pick up before it delivers, so only the negative w count.
+    // The deliveries may all be done while the pick-ups are still open, so only the negative w count.
     try_loads(16, 0, &[-1, i16::MAX]);
     try_loads(16, 0, &[i16::MAX, -1]);
     try_loads(0, 1, &[i16::MAX, -1, i16::MAX]);

@@ -136,7 +136,7 @@ fn random_entries_laid_out_right(rng: &mut Rng) -> Sheet {
 #[test]
 fn random_entries_in_sheets_laid_out_right() {
     let mut tally = Tally::default();
-    for seed in 0..20_000 {
+    for seed in 0..22_000 {
         let mut rng = Rng::new(seed);
         let sheet = random_entries_laid_out_right(&mut rng);
         tally.check_company(&sheet.encode(), format_args!("seed {seed}"));

@@ -47,10 +47,12 @@ fn sequences(limit: u16, count: usize) -> Vec<Vec<u16>> {
     sequences
 }
 
-/// The right cost, its neighbours, the least and the greatest; a plan with something unknown has no right one.
+/// The right cost, its neighbours, the least and the greatest; a plan with something unknown has no right one. A plan that
+/// breaks a pair may cost less than nothing: then it is the low 64 bits.
 fn costs(sheet: &Sheet, start: u16, doors: &[u16]) -> [u64; 5] {
     let right = cost(sheet, start, doors).unwrap_or(77) as u64;
-    [right, right + 1, right.wrapping_sub(1), 0, u64::MAX]
+    let (more, less) = (right.wrapping_add(1), right.wrapping_sub(1));
+    [right, more, less, 0, u64::MAX]
 }
 
 /// Every plan with each of its costs, and once with its layout damaged.

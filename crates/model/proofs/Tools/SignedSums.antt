@@ -1,7 +1,8 @@
 -- A loop that sums signed numbers of one width in a wider one: its invariant, one turn more, and the bound that keeps each sum within it. Assumes nothing.
 use Rattle.model.proofs.Basics.{_≡_, sym, ap₂, _∙_, Bool, true, false, cond, ℕ, suc, _+_, _-_, _*_, _^_, _≤_, _<_, lt-of-le-of-lt}
 use Rattle.model.proofs.Basics.{add-one, arith, ltb, ℤ, pos, negsuc, _+ℤ_, +ℤ-idr, mag, Width, hbits, toZ, ofZ, SFits, toZ-ofZ}
-use Rattle.model.proofs.Basics.{toZ-pos}
+use Rattle.model.proofs.Basics.{toZ-pos, zero}
+use lib.IntN.{negℤ, _-ℤ_}
 
 -- ---- a number of v bits, in w bits
 
@@ -14,7 +15,7 @@ module _ (v : Width) (x : ℤ) (f : mag x < 2 ^ hbits v) where
     widened-fits = rw back (record { sfits = g })
 
     -- is the number
-    widened : toZ w (ofZ w (toZ v (ofZ v x))) ≡ x
+    pub widened : toZ w (ofZ w (toZ v (ofZ v x))) ≡ x
     widened = toZ-ofZ w (toZ v (ofZ v x)) widened-fits ∙ back
 
 -- ---- how large a sum is
@@ -24,11 +25,19 @@ difference : (t : Bool) (a b : ℕ) → mag (cond t (negsuc (b - suc a)) (pos (a
 difference true a b = omega arith
 difference false a b = omega arith
 
-mag-add : (y z : ℤ) → mag (y +ℤ z) ≤ mag y + suc (mag z)
+pub mag-add : (y z : ℤ) → mag (y +ℤ z) ≤ mag y + suc (mag z)
 mag-add (pos a) (pos b) = omega arith
 mag-add (pos a) (negsuc b) = difference (ltb a (suc b)) a (suc b)
 mag-add (negsuc a) (pos b) = omega (arith, difference (ltb b (suc a)) b (suc a))
 mag-add (negsuc a) (negsuc b) = omega arith
+
+mag-neg : (z : ℤ) → mag (negℤ z) ≤ suc (mag z)
+mag-neg (pos zero) = omega arith
+mag-neg (pos (suc n)) = omega arith
+mag-neg (negsuc n) = omega arith
+
+pub mag-sub : (y z : ℤ) → mag (y -ℤ z) ≤ mag y + suc (suc (mag z))
+mag-sub y z = omega (arith, mag-add y (negℤ z), mag-neg z)
 
 -- ---- the sum in the code
 

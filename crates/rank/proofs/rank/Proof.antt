@@ -4,7 +4,8 @@ use Rattle.model.specs.{maskBits}
 use lib.Count.{trailingZeros, leadingZeros, trailing-le, leading-le}
 use Rattle.rank.specs.Binomials.{binomial}
 use Rattle.rank.specs.Ranks.{maxRanked, rankOf}
-use Rattle.rank.proofs.Ends.{Lowest, lowest, without-less, size-mask}
+use Rattle.model.proofs.TaskLists.Lowest.{Lowest, lowest}
+use Rattle.rank.proofs.Ends.{without-less, size-mask}
 use Rattle.rank.proofs.Ranking.{Ranking, none-ranked, one-ranked, rank-fits, all-ranked}
 use Rattle.rank.proofs.rank.Statement.{statement}
 use Rattle.rank.proofs.rank.Tie as tie

@@ -83,7 +83,7 @@ something-left-requires : tie.Need-something-left-requires
 something-left-requires c κs = let e = c .before in (view (e .before .before), few (e .before .before), inside e)
 
 too-light-requires : tie.Need-too-light-requires
-too-light-requires c κs = let k = c .before .before .before .before in (view k, omega (arith, few k))
+too-light-requires c κs = let e = c .before .before in (view (e .before .before), few (e .before .before), inside e)
 
 -- 15 applies
 returns-2 : tie.Need-returns-2

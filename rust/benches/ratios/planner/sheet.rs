@@ -1,4 +1,4 @@
-//! Reading a task sheet in Rust: 10 to 17 in their order, each body in one pass.
+//! Reading a task sheet in Rust: 10 to 15, then 17, then 16, each body in one pass.
 
 pub const MAX_TASKS: usize = 12;
 pub const DOOR_BYTES: usize = 10;
@@ -47,15 +47,11 @@ impl<'a> Sheet<'a> {
         }
         let entries = entries(bytes)?;
         let sheet = Sheet::of_bodies(bytes, &entries, bodies(bytes, &entries)?)?;
-        let mut lightest = sheet.end_load as i32;
-        for task in 0..sheet.ntasks {
-            lightest += sheet.load_change(task).min(0);
-        }
-        if lightest < 0 {
-            return Err(16);
-        }
         if sheet.has_no_order() {
             return Err(17);
+        }
+        if sheet.is_too_light() {
+            return Err(16);
         }
         Ok(sheet)
     }
@@ -129,11 +125,15 @@ impl<'a> Sheet<'a> {
         u16_at(self.distances, 2 * (from * self.npoints + to))
     }
 
-    /// The load while a list is open.
+    /// The load while an essential list is open.
     pub fn load(&self, list: u32) -> u32 {
+        self.signed_load(list) as u32
+    }
+
+    fn signed_load(&self, list: u32) -> i32 {
         let tasks = (0..self.ntasks).filter(|task| list >> task & 1 == 1);
         let changes: i32 = tasks.map(|task| self.load_change(task)).sum();
-        (self.end_load as i32 + changes) as u32
+        self.end_load as i32 + changes
     }
 
     /// The receivers of the tasks in a list.
@@ -152,6 +152,15 @@ impl<'a> Sheet<'a> {
             left = staying;
         }
         false
+    }
+
+    /// Whether some essential list has a load below zero. None has unless the lightest list of all is below zero.
+    fn is_too_light(&self) -> bool {
+        let negative = (0..self.ntasks).map(|task| self.load_change(task).min(0));
+        let lightest = self.end_load as i32 + negative.sum::<i32>();
+        let is_essential = |list: u32| self.receivers_of(list) & !list == 0;
+        let is_light = |list: u32| self.signed_load(list) < 0 && is_essential(list);
+        lightest < 0 && (1..=self.full()).any(is_light)
     }
 }
 

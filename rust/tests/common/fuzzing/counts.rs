@@ -13,6 +13,7 @@ const SHARE_OF_EACH_NUMBER: u64 = 10_000;
 const SHARE_PLANNED: u64 = 300_000;
 const SHARE_TIED: u64 = 20_000;
 const SHARE_LONG: u64 = 1_000;
+const SHARE_TAKEN_ABOARD: u64 = 50_000;
 const SHARE_PRICED: u64 = 300_000;
 const SHARE_STARTS_TIED: u64 = 20_000;
 const SHARE_ACCEPTED: u64 = 300_000;
@@ -27,6 +28,8 @@ pub struct Counts {
     pub tied: u64,
     /// Planned, with six tasks or more.
     pub long: u64,
+    /// Planned, with an end load for which the old 16 refused it: crates are taken aboard in the round.
+    pub taken_aboard: u64,
     /// Priced, with several starts from which it costs as little as from any.
     pub starts_tied: u64,
     /// Calls after which something was not as is due.
@@ -47,6 +50,7 @@ impl Counts {
             Call::Plan => {
                 self.tied += u64::from(solved.cheapest > 1);
                 self.long += u64::from(solved.sheet.tasks.len() >= LONG);
+                self.taken_aboard += u64::from(solved.sheet.old_16_applies());
             }
             Call::Price => {
                 let starts = tied_starts(&solved.due, &solved.sheet.starts);
@@ -62,6 +66,7 @@ impl Counts {
         }
         self.tied += others.tied;
         self.long += others.long;
+        self.taken_aboard += others.taken_aboard;
         self.starts_tied += others.starts_tied;
         self.differences += others.differences;
     }
@@ -110,6 +115,11 @@ impl Counts {
             ("planned", self.planned(), SHARE_PLANNED),
             ("planned with a tie", self.tied, SHARE_TIED),
             ("planned with six tasks or more", self.long, SHARE_LONG),
+            (
+                "planned where the old 16 refused",
+                self.taken_aboard,
+                SHARE_TAKEN_ABOARD,
+            ),
             ("priced", self.priced(), SHARE_PRICED),
             (
                 "priced with tied starts",

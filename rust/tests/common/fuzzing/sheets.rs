@@ -70,16 +70,21 @@ pub fn largest(rng: &mut Rng) -> Sheet {
     sheet
 }
 
-/// Two to four numbers that can come together, or one with 10.
+/// Two to four numbers that can come together, one with 10, or the two that hang on the pairs.
 fn several_faults(rng: &mut Rng) -> Vec<u8> {
-    if rng.one_in(4) {
-        let number = rng.pick(&[11, 12, 13]);
-        return short_with_faults(rng, &[number]);
+    match rng.below(4) {
+        0 => {
+            let number = rng.pick(&[11, 12, 13]);
+            short_with_faults(rng, &[number])
+        }
+        1 => with_faults(rng, &[17, 16]),
+        _ => {
+            let mut numbers = all_but_10();
+            rng.shuffle(&mut numbers);
+            numbers.truncate(rng.between(2, 4));
+            with_faults(rng, &numbers)
+        }
     }
-    let mut numbers = all_but_10();
-    rng.shuffle(&mut numbers);
-    numbers.truncate(rng.between(2, 4));
-    with_faults(rng, &numbers)
 }
 
 fn mutated(rng: &mut Rng) -> Vec<u8> {

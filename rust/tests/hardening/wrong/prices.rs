@@ -2,9 +2,9 @@
 
 use super::assert_told;
 use crate::common::interface;
+use crate::common::lists::is_allowed;
 use crate::common::pricing::{most_lists, EVEN};
 use crate::common::reading::{decode, faults};
-use crate::common::rounds::is_allowed;
 use crate::common::tested::ACCEPTED;
 use crate::stand_in::{price, price_row};
 

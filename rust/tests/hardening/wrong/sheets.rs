@@ -2,9 +2,9 @@
 
 use super::assert_told;
 use crate::common::interface;
+use crate::common::lists::is_allowed;
 use crate::common::plan::{plan_len, HEAD};
 use crate::common::reading::{decode, faults};
-use crate::common::rounds::is_allowed;
 use crate::common::tested::ACCEPTED;
 use crate::stand_in::{plan, read};
 
@@ -24,6 +24,30 @@ fn refuses_with_the_last_number_that_applies() {
         faults(sheet).pop().unwrap_or(number)
     });
     assert_told("answers 1", wrong);
+}
+
+#[test]
+fn refuses_by_the_old_16() {
+    let wrong = read(|sheet, tasks, points| {
+        let number = interface::read(sheet, tasks, points);
+        if number == ACCEPTED && decode(sheet).old_16_applies() {
+            return 16;
+        }
+        number
+    });
+    assert_told("answers 16, and not 0", wrong);
+}
+
+#[test]
+fn tests_16_before_17() {
+    let wrong = read(|sheet, tasks, points| {
+        let number = interface::read(sheet, tasks, points);
+        if number == 17 && faults(sheet).contains(&16) {
+            return 16;
+        }
+        number
+    });
+    assert_told("answers 16, and not 17", wrong);
 }
 
 #[test]
