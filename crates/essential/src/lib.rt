@@ -98,6 +98,7 @@ fn some_light_list(s: &[u8], v: View) -> bool
     let mut load = view::end_load(s, v) as i32;
     let mut k: u32 = 1;
     while k < lists {
+        // The signed load of list k, of any sign.
         load = load + steps[u32::trailing_zeros(k) as usize];
         if load < 0 {
             if closed(&senders, tasks, k) {

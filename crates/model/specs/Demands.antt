@@ -84,9 +84,10 @@ pub record Demand2 : Type 0 where
 -- solution of that sheet, from whichever start listed, costs at least as much, and one that costs the same has a higher start number, or the same start and, where
 -- the doors first differ, a higher door number. And unless planning refuses, the work area then shows, for every open list that the pairs allow, the empty one too,
 -- and for every point, the least cost of finishing from there; units will soon replan in mid-round from those figures."
--- 02, Req 03: "From now on 16 is for a sheet where some essential list has a load below zero. It is therefore tested after 17. [..] Lists that are not essential may
--- have a negative load, and no leg is ever costed with it. A sheet that passes 10 to 15 gets 17 exactly if no order keeps every pair; one that then passes the new 16 is
--- planned as demand 3 asks, whether or not the old 16 refused it."
+-- 02, Req 03, restates it: "A van that picks up and then delivers can get 16, although the pair keeps the bad list from ever being open. From now on 16 is for a sheet
+-- where some essential list has a load below zero. It is therefore tested after 17. Sheet A with E 2 and pair (1, 0) is now planned; without the pair it still gets 16.
+-- Lists that are not essential may have a negative load, and no leg is ever costed with it. A sheet that passes 10 to 15 gets 17 exactly if no order keeps every pair;
+-- one that then passes the new 16 is planned as demand 3 asks, whether or not the old 16 refused it."
 
 -- "a sheet that passes 10 to 15", with room lent for work and plan: nothing is said of loads, nor of what stands in the cells or in the buffer
 pub record Lent (b cells buffer : List ℕ) : Type 0 where
