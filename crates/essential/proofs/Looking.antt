@@ -1,6 +1,6 @@
 -- The lists one by one, from the empty one on: the sum is the load of the list, and none so far is essential with a load below zero. Assumes nothing.
-use Rattle.model.proofs.Basics.{_≡_, refl, sym, ap, ap₂, _∙_, Bool, true, false, _&&_, List, ℕ, zero, suc, _+_, _-_, _*_, _^_, _≤_, _<_, add-one, arith, getD}
-use Rattle.model.proofs.Basics.{ℤ, pos, _+ℤ_, mag, toZ, ofZ, SFits, toZ-ofZ, toZ-pos, +ℤ-idr, ltZ}
+use Rattle.model.proofs.Basics.{_≡_, refl, sym, ap, ap₂, _∙_, Bool, true, false, _&&_, and-false, and-true, List, ℕ, zero, suc, _+_, _-_, _^_, _≤_, _<_, arith, getD}
+use Rattle.model.proofs.Basics.{ℤ, pos, _+ℤ_, toZ, ofZ, SFits, toZ-ofZ, toZ-pos, +ℤ-idr, ltZ}
 use Rattle.model.specs.{mapBelow, bit, loadBelow, load, essential, lightList, tooLight, maxTasks, maskBits, sendersOf, InRange}
 use Rattle.model.specs.Sheet.{Sheet}
 use Rattle.model.proofs.Tools.Searches.{Searched, none-tried, next, none-found, found}
@@ -32,14 +32,6 @@ empty-first S {lists} {e} q f l = record {
 }
 
 -- ---- the next list
-
-and-on : (a : Bool) → (a && true) ≡ a
-and-on true = refl
-and-on false = refl
-
-and-off : (a : Bool) → (a && false) ≡ false
-and-off true = refl
-and-off false = refl
 
 module _ {S : Sheet} {steps : List ℤ} {lists sum k : ℕ} (h : Looking S lists sum k) (p : Steps S steps) (few : S .tasks ≤ maxTasks) (end : S .endLoad < 2 ^ 16)
     (n : lists ≡ 2 ^ S .tasks) (l : k < lists) (fit : k < 2 ^ maskBits) where
@@ -85,7 +77,7 @@ module _ {S : Sheet} {steps : List ℤ} {lists sum k : ℕ} (h : Looking S lists
   -- its load is not below zero
   pub heavy : ltZ (toZ w32 (ofZ w32 total)) (pos 0) ≡ false → Looking S lists (ofZ w32 total) (k + 1)
   unfolding lightList
-  heavy e = passed-by (ap (λ b. essential S k && b) (ap (λ z. ltZ z (pos 0)) (sym held) ∙ e) ∙ and-off (essential S k))
+  heavy e = passed-by (ap (λ b. essential S k && b) (ap (λ z. ltZ z (pos 0)) (sym held) ∙ e) ∙ and-false (essential S k))
 
   -- it is below zero, and c is what the code finds of its senders
   module _ (R : InRange S) (e : ltZ (toZ w32 (ofZ w32 total)) (pos 0) ≡ true) {c : Bool} {m : ℕ} {ws : List ℕ} (q : c ≡ closedBy ws m k) (w : ws ≡ mapBelow maxTasks (sendersOf S))
@@ -94,7 +86,7 @@ module _ {S : Sheet} {steps : List ℤ} {lists sum k : ℕ} (h : Looking S lists
     unfolding lightList
     is-light =
         q ∙ rw (w, o) (closed-is S R few k (λ z. omega (arith, h .above)))
-        ∙ sym (ap (λ b. essential S k && b) (ap (λ z. ltZ z (pos 0)) (sym held) ∙ e) ∙ and-on (essential S k))
+        ∙ sym (ap (λ b. essential S k && b) (ap (λ z. ltZ z (pos 0)) (sym held) ∙ e) ∙ and-true (essential S k))
 
     pub light : c ≡ true → true ≡ tooLight S
     unfolding tooLight

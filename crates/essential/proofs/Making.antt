@@ -1,5 +1,5 @@
 -- The steps in the code, one task at a time, in 32 bits. Assumes nothing.
-use Rattle.model.proofs.Basics.{_≡_, sym, ap, ap₂, _∙_, List, ℕ, suc, _+_, _*_, _^_, _≤_, _<_, add-one, arith, ℤ, pos, _+ℤ_, mag, length, getD, set, replicate}
+use Rattle.model.proofs.Basics.{_≡_, ap, ap₂, _∙_, List, ℕ, _+_, _^_, _<_, arith, ℤ, pos, _+ℤ_, mag, length, getD, set, replicate}
 use Rattle.model.proofs.Basics.{length-set, length-replicate, getD-set-same, getD-set-other, toZ, ofZ, SFits, toZ-ofZ}
 use Rattle.model.specs.{maxTasks}
 use Rattle.model.specs.Sheet.{Sheet}

@@ -1,9 +1,9 @@
 -- An essential list by the senders of each task: none that it lacks has a sender in it. Assumes nothing.
-use Rattle.model.proofs.Basics.{_≡_, refl, sym, ap, _∙_, Bool, true, false, not, _&&_, _||_, List, ℕ, zero, suc, _≤_, _<_, arith, eqb, getD, eqb-true, eq-eqb}
-use Rattle.model.proofs.Basics.{not-true}
+use Rattle.model.proofs.Basics.{_≡_, refl, sym, ap, _∙_, Bool, true, false, not, _&&_, _||_, ℕ, zero, suc, _≤_, _<_, arith, eqb, eqb-true, eq-eqb}
+use Rattle.model.proofs.Basics.{or-false, not-true}
 use Rattle.model.specs.{allBelow, anyBelow, mapBelow, member, maxTasks, maskBits, meets, sendersBelow, sendersOf, essential, InRange}
 use Rattle.model.specs.Sheet.{Sheet}
-use Rattle.model.proofs.Tools.Tests.{by-test, same-test, and-left, and-right, and-both, or-true, all-at, all-below, none-at, none-below, any-true, one-passes}
+use Rattle.model.proofs.Tools.Tests.{by-test, same-test, and-left, and-right, and-both, all-at, all-below, none-at, none-below}
 use Rattle.model.proofs.Tools.Tests.{implied, all-cong, not-both}
 use Rattle.model.proofs.Tools.Folds.{mapBelow-at}
 use Rattle.model.proofs.TaskLists.Masks.{with-in}
@@ -22,11 +22,7 @@ senders-meet S R K t zero l = meets-none maskBits K
 senders-meet S R K t (suc n) l = by-test (eqb (S .receiver n) t)
     (λ w. rw (w, with-in maskBits (sendersBelow S n t) (S .sender n) (R n (omega arith)))
     (meets-with maskBits (sendersBelow S n t) (S .sender n) K (R n (omega arith)) ∙ ap (λ b. b || member K (S .sender n)) (senders-meet S R K t n (omega arith))))
-    (λ w. rw w (senders-meet S R K t n (omega arith) ∙ sym (or-off (anyBelow n (leads S K t)))))
-  where
-    or-off : (a : Bool) → (a || false) ≡ a
-    or-off true = refl
-    or-off false = refl
+    (λ w. rw w (senders-meet S R K t n (omega arith) ∙ sym (or-false (anyBelow n (leads S K t)))))
 
 module _ (S : Sheet) (R : InRange S) (few : S .tasks ≤ maxTasks) (K : ℕ) where
   -- task t is in K, or has no sender in it

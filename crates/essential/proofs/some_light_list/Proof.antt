@@ -1,5 +1,5 @@
 -- The lists one by one: the sum is the load of the list before, and none so far is essential with a load below zero. Assumes nothing.
-use Rattle.model.proofs.Basics.{_≡_, sym, ap, _∙_, ⊎-elim, ℕ, _-_, _^_, _<_, arith, pow-pos, needs}
+use Rattle.model.proofs.Basics.{_≡_, ap, _∙_, ⊎-elim, _-_, _^_, _<_, arith, pow-pos, needs}
 use Rattle.model.specs.{decode, listsOf, maskBits}
 use Rattle.model.proofs.Tools.Folds.{length-mapBelow}
 use Rattle.model.proofs.TaskLists.Masks.{lists-of}

@@ -1,9 +1,9 @@
 -- The three demands on the product, as three theorems over the predicates of specs/: `demand-1`, `demand-2` and `demand-3`, each from the theorems on
 -- its call. Assumes nothing.
-use Rattle.model.proofs.Basics.{_≡_, refl, sym, ap, ap₂, _∙_, _⊎_, inl, inr, ⊎-elim, _↔_, true, false, List, some, ℕ, _+_, _*_, _^_, _<_}
+use Rattle.model.proofs.Basics.{_≡_, refl, sym, ap, _∙_, _⊎_, inl, inr, ⊎-elim, _↔_, true, false, List, some, ℕ, _+_, _*_, _^_, _<_}
 use Rattle.model.proofs.Basics.{lt-of-lt-of-le, lit≤, length, getD, take, drop, replicate, digits-lt}
 use Rattle.model.specs.{Examples.sheetA, noOrder, pairsAllow, cost, Plan, isSolution, planCost, cheapest, costToGo, refused, accepted}
-use Rattle.model.specs.{refuseIf, decode, readSheet, maxPlanDoors, planLength, planBytes, doorArray, readPlan, validate, cellsNeeded}
+use Rattle.model.specs.{decode, readSheet, maxPlanDoors, planLength, planBytes, doorArray, readPlan, validate, cellsNeeded}
 use Rattle.model.specs.{orNoOrder, planFor, carriedOut, plan, CountsWithin, tooLight, unlessFault, LoadsHold, SomeTooLight}
 use Rattle.model.specs.Demands.{Cheapest, Demand1, Demand2, Demand3, Lent, LegsHold, SomeOrder, NoOrder}
 use Rattle.model.proofs.Tools.{Refusing.refused≢accepted, Refusing.accepted-value, Tests.by-test}

@@ -1,6 +1,6 @@
 -- Document 01's own figures hold of the definitions: every field stands where the document puts it, and reading and planning are refused with each
 -- of their numbers, and accept, exactly where the document says so. Assumes nothing.
-use Rattle.model.proofs.Basics.{_≡_, refl, sym, ap, _∙_, _⊎_, inl, inr, _↔_, true, false, not, List, _++_, ℕ, suc, _+_, _*_, _^_}
+use Rattle.model.proofs.Basics.{_≡_, refl, sym, ap, _⊎_, inl, inr, _↔_, true, false, not, List, _++_, ℕ, suc, _+_, _*_, _^_}
 use Rattle.model.proofs.Basics.{_≤_, _<_, arith, eqb, pos, ltZ, lit<, length, eqb-true, eqb-false, eq-eqb, ne-eqb, ltb-true, lt-ltb, not-true}
 use Rattle.model.proofs.Basics.{not-false}
 use Rattle.model.specs.{Answer.Answer, isBetween, anyBelow, bit, essential, load, lightList, kind1, fieldWidth, bytesBefore, entryBytes, lineAt}

@@ -2,11 +2,11 @@
 use Rattle.model.proofs.Basics.{_≡_, sym, ap, _∙_, _⊎_, inl, inr, ⊎-elim, Bool, true, false, List, Option, none, some, ℕ, _+_, _*_}
 use Rattle.model.proofs.Basics.{_/_, _^_, _≤_, _<_, le-div-iff-mul-le, arith, ltb, length, getD, List·getD-eq-default, ltb-true}
 use Rattle.model.proofs.Basics.{ltb-false, lt-ltb, le-ltb, digits-div, digits-mod}
-use Rattle.model.specs.{Sheet.Sheet, Answer.Answer, noOrder, pairsAllow, Plan, cheapest, costToGo, refused, accepted, refuseIf}
+use Rattle.model.specs.{Sheet.Sheet, Answer.Answer, pairsAllow, Plan, cheapest, costToGo, refused, accepted, refuseIf}
 use Rattle.model.specs.{layoutOf, decode, planLength, shortRoom, cellsNeeded, fewCells, roomTests, orNoOrder, planFor}
 use Rattle.model.specs.{cellAfter, cellsAfter, carriedOut, plan, full, Plannable, unlessFault}
 use Rattle.model.proofs.Tools.Refusing.{refused≢accepted, refused-number, accepted-value, accepted-pass}
-use Rattle.model.proofs.Calls.Reading.{Reads, reads-then, counts-read, accepted-reads, refused-reads}
+use Rattle.model.proofs.Calls.Reading.{Reads, counts-read, accepted-reads, refused-reads}
 use Rattle.model.proofs.{Tools.Folds.length-mapBelow, Tools.Folds.mapBelow-at, Tools.Tests.by-test, Theory.Cheapest.cheapest-some}
 use Rattle.model.proofs.{Theory.Driving.has-completion, Theory.Starts.solution-completes, Bytes.Ranges.in-range, Bytes.Ranges.served}
 

@@ -1,8 +1,8 @@
 -- Fault 17: no order of the tasks keeps every pair exactly where striking off, again and again, tasks that can come first leaves something. A strike
 -- neither makes nor ends an order, and a pass strikes something off unless no task can come first. Assumes nothing.
-use Rattle.model.proofs.Basics.{_≡_, refl, sym, ap, _∙_, subst, _⊎_, inl, inr, ⊎-elim, _↔_, true, false, not, List, [], _∷_, ℕ, zero}
+use Rattle.model.proofs.Basics.{_≡_, refl, sym, ap, _∙_, subst, _⊎_, inl, inr, ⊎-elim, true, false, not, List, [], _∷_, ℕ, zero}
 use Rattle.model.proofs.Basics.{suc, _+_, _^_, _≤_, _<_, arith, eqb, eqb-true, eqb-false, ne-eqb, not-true}
-use Rattle.model.specs.{Sheet.Sheet, bit, without, full, size, isAdmissible, isOrderWithin, noOrder, maskBits}
+use Rattle.model.specs.{Sheet.Sheet, bit, without, full, size, isOrderWithin, noOrder, maskBits}
 use Rattle.model.specs.{canComeFirst, strikeBelow, strikeOff, somethingLeft}
 use Rattle.model.specs.{InRange}
 use Rattle.model.proofs.Tools.Tests.{same-test, not-both, and-both, by-test, by-last}
