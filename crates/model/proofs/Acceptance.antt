@@ -1,6 +1,6 @@
 -- The starred lines of document 01, and further examples, hold of the definitions, by computing. Assumes nothing.
 use Rattle.model.proofs.Basics.{_≡_, refl, T}
-use Rattle.model.specs.{Neighbours.checkMethod, Neighbours.checkNeighbours, countBelow, isBetween, mapBelow, bit, with, without, full}
+use Rattle.model.specs.{Neighbours.checkMethod, Neighbours.checkNeighbours, Corners.checkCorners, countBelow, isBetween, mapBelow, bit, with, without, full}
 use Rattle.model.specs.{size, watchedIn, isOrder, keepsPair, keepsEveryPair, pairWithin, keepsPairsWithin, isAdmissible}
 use Rattle.model.specs.{isOrderWithin, admissibleOrders, noOrder, essential, pairsAllow, load, ruleCharge, charges, stepCost, inSheet}
 use Rattle.model.specs.{isSolution, roundCost, planCost, plans, solutions, cheapest, isCompletion, completions, costToGo, numberAt}
@@ -16,8 +16,8 @@ use Rattle.model.specs.{cellAfter, cellsAfter, plan, decimal, refusalLin
 use Rattle.model.specs.{listsOf, fullOf, meets, sendersOf, lightestTooLight, testsBefore, planBefore}
 use Rattle.model.specs.Examples.{sheetA, checkStarred, checkFurther, checkAboard}
 
-examples : T checkStarred × T checkFurther × T checkNeighbours × T checkMethod × T checkAboard × (readSheet sheetA ≡ accepted (record { tasks = 2; points = 3 }))
-unfolding checkStarred checkFurther checkNeighbours checkMethod checkAboard
+examples : T checkStarred × T checkFurther × T checkNeighbours × T checkMethod × T checkAboard × T checkCorners × (readSheet sheetA ≡ accepted (record { tasks = 2; points = 3 }))
+unfolding checkStarred checkFurther checkNeighbours checkMethod checkAboard checkCorners
     countBelow isBetween mapBelow bit with without full size watchedIn withIn listsOf fullOf meets sendersOf
     isOrder keepsPair keepsEveryPair pairWithin keepsPairsWithin isAdmissible isOrderWithin admissibleOrders noOrder essential pairsAllow
     load ruleCharge charges stepCost inSheet isSolution roundCost planCost plans solutions cheapest isCompletion completions costToGo
@@ -30,7 +30,7 @@ unfolding checkStarred checkFurther checkNeighbours checkMethod checkAboard
     wrongHead illFormed startIn doorIn doorsIn costIn doorArray readTests readPlan noDoors withDoor inHand
     notInSheet doneTwice breaksPair wrongCost routeTests planTests validate cellsNeeded fewCells roomTests planFor cellAfter cellsAfter plan
     decimal refusalLine stepLine planLines printedWith print printed
-examples = (tt, tt, tt, tt, tt, refl)
+examples = (tt, tt, tt, tt, tt, tt, refl)
 
 -- the starred lines, all of them
 pub starred : T checkStarred
@@ -52,6 +52,10 @@ method = examples .3
 pub taken-aboard : T checkAboard
 taken-aboard = examples .4
 
+-- four rules of least count 2, a load of more than 16 bits, 14 at each limit, fourteen doors lent, a cost of eight bytes, the words that are printed
+pub corners : T checkCorners
+corners = examples .5
+
 -- A reads, with two tasks and three points
 pub reads-A : readSheet sheetA ≡ accepted (record { tasks = 2; points = 3 })
-reads-A = examples .5
+reads-A = examples .6

@@ -12,3 +12,6 @@ pub mod PlanFigures
 pub mod Powers
 pub mod Since
 pub mod Judged
+pub mod Sums
+pub mod Lines
+pub mod AllFigures

@@ -3,3 +3,4 @@ pub mod Masks
 pub mod OpenLists
 pub mod Counting
 pub mod Lowest
+pub mod Places

@@ -8,10 +8,12 @@ pub mod Ranks
 pub mod Enumerations
 pub mod Solutions
 pub mod OpenAlong
+pub mod EssentialOpen
 pub mod Cheapest
 pub mod NoOrder
 pub mod Loads
 pub mod Charges
+pub mod RouteSums
 pub mod Bounds
 pub mod Driving
 pub mod Starts

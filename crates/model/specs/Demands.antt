@@ -155,7 +155,7 @@ pub record LegsHold (S : Sheet) : Type 0 where
 
 -- ---- the demands by what is returned and left
 
--- Demand 1. `left-alone` says that after a refusal every place holds what it held before
+-- Demand 1. `left-alone` says that after a refusal every place holds what it held before, whatever the call; the last five fields say it of each place
 pub record Demand1Returned : Type 0 where
   -- reading returns 0 exactly for a sheet that is laid out as it should be, has an order of its tasks that keeps every pair, and no essential list with a load below zero; it
   -- then leaves N and P
@@ -173,7 +173,7 @@ pub record Demand1Returned : Type 0 where
   pub reading : (b : List ℕ) → (status (readSheet b) ≡ 0 → ⊥) → SheetNumber (status (readSheet b))
   pub judging : (b q : List ℕ) → (status (validate b q) ≡ 0 → ⊥) → SheetNumber (status (validate b q)) ⊎ ((30 ≤ status (validate b q)) × (status (validate b q) ≤ 34))
   pub reading-a-plan : (n lent : ℕ) (q : List ℕ) → (status (readPlan n lent q) ≡ 0 → ⊥) → (status (readPlan n lent q) ≡ 12) ⊎ (status (readPlan n lent q) ≡ 30)
-  -- and planning then leaves every cell and every byte, and writing every byte; what a call is lent besides, as *cost for planning, are places, which `left-alone` speaks of
+  -- and planning then leaves every cell and every byte, and writing every byte
   pub planning : (b cells buffer : List ℕ) → (status (plan b cells buffer .answer) ≡ 0 → ⊥)
       → (SheetNumber (status (plan b cells buffer .answer)) ⊎ ((status (plan b cells buffer .answer) ≡ 20) ⊎ (status (plan b cells buffer .answer) ≡ 21)))
       × (plan b cells buffer .cells ≡ cells) × (plan b cells buffer .bytes ≡ buffer)
@@ -182,6 +182,18 @@ pub record Demand1Returned : Type 0 where
   -- planning and judging return what reading returns, where that is not 0
   pub reads-first : (b cells buffer q : List ℕ) → (status (readSheet b) ≡ 0 → ⊥)
       → (status (plan b cells buffer .answer) ≡ status (readSheet b)) × (status (validate b q) ≡ status (readSheet b))
+  -- and every place then holds what it held before: *tasks and *points of reading
+  pub reading-leaves : (b : List ℕ) (t p : ℕ) → (status (readSheet b) ≡ 0 → ⊥) → (tasksLeft b t ≡ t) × (pointsLeft b p ≡ p)
+  -- *cost of planning
+  pub planning-leaves : (b cells buffer : List ℕ) (before : ℕ) → (status (plan b cells buffer .answer) ≡ 0 → ⊥) → placedNumber (plan b cells buffer .answer) before ≡ before
+  -- *written of writing a plan
+  pub writing-leaves : (n start : ℕ) (doors : List ℕ) (c : ℕ) (buffer : List ℕ) (before : ℕ) → (status (writePlan n start doors c buffer .answer) ≡ 0 → ⊥)
+      → placedNumber (writePlan n start doors c buffer .answer) before ≡ before
+  -- *start, every door and *cost of reading one
+  pub reading-a-plan-leaves : (n : ℕ) (q : List ℕ) (start : ℕ) (doors : List ℕ) (c : ℕ) → (status (readPlan n (length doors) q) ≡ 0 → ⊥)
+      → (startLeft n (length doors) q start ≡ start) × (doorsLeft n q doors ≡ doors) × (costLeft n (length doors) q c ≡ c)
+  -- *cost of judging
+  pub judging-leaves : (b q : List ℕ) (before : ℕ) → (status (validate b q) ≡ 0 → ⊥) → placedNumber (validate b q) before ≡ before
 
 -- Demand 2
 pub record Demand2Returned : Type 0 where
@@ -201,7 +213,10 @@ pub record Demand2Returned : Type 0 where
       × (startLeft n (length doors') (take (32 + 2 * n) (writePlan n start doors c buffer .bytes)) start' ≡ start)
       × ((i : ℕ) → i < n → getD (doorsLeft n (take (32 + 2 * n) (writePlan n start doors c buffer .bytes)) doors') i 0 ≡ getD doors i 0)
       × (costLeft n (length doors') (take (32 + 2 * n) (writePlan n start doors c buffer .bytes)) c' ≡ c)
-  -- bytes whose reading returns 0 are those that writing what it left yields
+  -- bytes whose reading returns 0 leave as many doors as are lent, and 0 in each from n on
+  pub zeros-left : (n : ℕ) (q doors : List ℕ) → status (readPlan n (length doors) q) ≡ 0
+      → (length (doorsLeft n q doors) ≡ length doors) × ((i : ℕ) → n ≤ i → i < length doors → getD (doorsLeft n q doors) i 1 ≡ 0)
+  -- and are those that writing what it left yields
   pub read-then-written : (n : ℕ) (q : List ℕ) (start : ℕ) (doors : List ℕ) (c : ℕ) (buffer : List ℕ) → areBytes q ≡ true → status (readPlan n (length doors) q) ≡ 0 → length buffer ≡ length q
       → writePlan n (startLeft n (length doors) q start) (doorsLeft n q doors)
       (costLeft n (length doors) q c) buffer .bytes ≡ q

@@ -195,7 +195,7 @@ abbrev pub planRefuses : Answer PlanRead → ℕ → Bool
 planRefuses (refused m) n = eqb m n
 planRefuses (accepted x) n = false
 
-abbrev planAnswers : Answer PlanRead → ℕ → List ℕ → ℕ → Bool
+abbrev pub planAnswers : Answer PlanRead → ℕ → List ℕ → ℕ → Bool
 planAnswers (refused m) start doors cost = false
 planAnswers (accepted x) start doors cost = eqb (x .start) start && sameList (x .doors) doors && eqb (x .cost) cost
 

@@ -1,23 +1,27 @@
--- Document 01's own figures: where each number of a sheet stands, what each number that a call can answer with means, in plain facts, and in which order they are
--- tested. No figure here comes from the table of SheetLayout.antt, and no order from a list of tests. `figures` proves `FiguresHold`, which is all of it (01, Layout of
--- a task sheet, Layout of a plan and Numbers a call can answer with; 16 and its place as 02, Req 03, has them). Assumes nothing.
+-- Document 01's own figures: where each number of a sheet stands, what each number that a call can answer with means, in plain facts, in which order they are
+-- tested, what a route costs, and what is printed. No figure here comes from the table of SheetLayout.antt, no order from a list of tests, and no cost from Cost.antt.
+-- `figures` proves `FiguresHold`, which is all of it (01, Layout of a task sheet, Cost of a round, Layout of a plan, Numbers a call can answer with, and Sheet A and its
+-- neighbours; 16 and its place as 02, Req 03, has them). Assumes nothing.
 use mathlib.Core.Path.{_≡_}
 use mathlib.Core.Logic.{_↔_}
-use mathlib.Core.Bool.{true}
+use mathlib.Core.Bool.{true, cond, _&&_}
 use mathlib.Core.List.{List, [], _∷_, _++_}
-use Prim.Native.Nat.{ℕ, _+_, _*_, _/_, _%_, _^_, _≤_, _<_}
-use lib.ListN.{length, take}
-use Rattle.model.specs.Folds.{sumBelow, mapBelow, indexOf}
+use Prim.Native.Nat.{ℕ, zero, suc, _+_, _-_, _*_, _/_, _%_, _^_, _≤_, _<_}
+use lib.Dec.{eqb, leb}
+use lib.IntN.{pos, _+ℤ_}
+use lib.ListN.{length, getD, take, drop}
+use Rattle.model.specs.Folds.{sumBelow, flatMapBelow, mapBelow, indexOf}
 use Rattle.model.specs.Sheet.{Sheet}
 use Rattle.model.specs.Orders.{isAdmissible}
-use Rattle.model.specs.Plans.{roundCost}
+use Rattle.model.specs.Cost.{cost}
+use Rattle.model.specs.Plans.{isSolution, roundCost, isCompletion}
 use Rattle.model.specs.Bytes.{numberAt, signed}
 use Rattle.model.specs.Answer.{Answer, refused, accepted, status}
 use Rattle.model.specs.SheetLayout.{decode}
-use Rattle.model.specs.Passing.{InRange, up, down}
+use Rattle.model.specs.Passing.{up, down}
 use Rattle.model.specs.Planning.{plan}
-use Rattle.model.specs.Printing.{printedWith, printed}
-use Rattle.model.specs.PlanLayout.{writePlan, readPlan}
+use Rattle.model.specs.Printing.{ascii, decimal, printedWith, print, printed}
+use Rattle.model.specs.PlanLayout.{writePlan, PlanRead, readPlan}
 use Rattle.model.specs.Faults.{readSheet}
 use Rattle.model.specs.Validating.{validate}
 
@@ -121,12 +125,23 @@ pub record RightPlaces (b : List ℕ) : Type 0 where
 
 -- 14: every task, point and door that is named is in the sheet, no watched bit is at N or above, which would make the number 2^N or more, and least counts run from 1 to 12
 pub record RightRanges (S : Sheet) : Type 0 where
-  pub named : InRange S
+  pub task : (d : ℕ) → d < S .doors → S .task d < S .tasks
+  pub arrive : (d : ℕ) → d < S .doors → S .arrive d < S .points
+  pub depart : (d : ℕ) → d < S .doors → S .depart d < S .points
+  pub startPoint : (s : ℕ) → s < S .starts → S .startPoint s < S .points
+  pub sender : (i : ℕ) → i < S .pairs → S .sender i < S .tasks
+  pub receiver : (i : ℕ) → i < S .pairs → S .receiver i < S .tasks
+  pub ruleDoor : (i : ℕ) → i < S .rules → S .ruleDoor i < S .doors
+  pub watched : (i : ℕ) → i < S .rules → S .watched i < 2 ^ S .tasks
   pub leastCount : (i : ℕ) → i < S .rules → Between 1 12 (S .leastCount i)
 
 -- task t is in list K: bit t of K
 abbrev pub HasTask : ℕ → ℕ → Type 0
 HasTask K t = K / 2 ^ t % 2 ≡ 1
+
+-- list K is closed: it has the receiver of each pair whose sender it has. The lists that the pairs allow are the closed ones, and the essential lists those from 1 on
+abbrev pub Closed : Sheet → ℕ → Type 0
+Closed S K = (i : ℕ) → i < S .pairs → HasTask K (S .sender i) → HasTask K (S .receiver i)
 
 -- 16: E and what the tasks of list K add is less than what they take away, so that E plus the w of its tasks is below zero
 abbrev pub BelowZero : Sheet → ℕ → Type 0
@@ -149,8 +164,7 @@ pub data SheetApplies (b : List ℕ) (r : ℕ) : Type 0 where
   -- 17: no order of the tasks keeps every pair
   is17 : r ≡ 17 → ((ts : List ℕ) → isAdmissible (decode b) ts ≡ true → ⊥) → SheetApplies b r
   -- 16: some list K from 1 to 2^N - 1, with the receiver of each pair whose sender it has, has E plus the w of its tasks below zero
-  is16 : r ≡ 16 → (K : ℕ) → 1 ≤ K → K < 2 ^ decode b .tasks
-      → ((i : ℕ) → i < decode b .pairs → HasTask K (decode b .sender i) → HasTask K (decode b .receiver i)) → BelowZero (decode b) K → SheetApplies b r
+  is16 : r ≡ 16 → (K : ℕ) → 1 ≤ K → K < 2 ^ decode b .tasks → Closed (decode b) K → BelowZero (decode b) K → SheetApplies b r
 
 -- ---- what the numbers of planning mean
 
@@ -179,6 +193,14 @@ doorStated q i = numberAt 2 q (24 + 2 * i)
 
 abbrev pub costStated : ℕ → List ℕ → ℕ
 costStated n q = numberAt 8 q (24 + 2 * n)
+
+-- a plan of n doors is read from q, with so many doors lent: a door lent from n on is 0
+pub record ReadAs (n lent : ℕ) (q : List ℕ) (x : PlanRead) : Type 0 where
+  pub start : x .start ≡ startStated q
+  pub as-many : length (x .doors) ≡ lent
+  pub doors : (i : ℕ) → i < n → getD (x .doors) i 0 ≡ doorStated q i
+  pub zeros : (i : ℕ) → n ≤ i → i < lent → getD (x .doors) i 1 ≡ 0
+  pub cost : x .cost ≡ costStated n q
 
 -- r applies to the plan q for the sheet b
 pub data ValidatingApplies (b q : List ℕ) (r : ℕ) : Type 0 where
@@ -243,16 +265,123 @@ First order applies r = applies r × ((n : ℕ) → Before order n r → applies
 abbrev pub None : (ℕ → Type 0) → Type 0
 None applies = (n : ℕ) → applies n → ⊥
 
--- the call is refused with r exactly if r applies and none that it tests before r does, and is accepted exactly if none applies; and so by what is returned
+-- r stands in the order
+abbrev pub Listed : List ℕ → ℕ → Type 0
+Listed order r = indexOf r order < length order
+
+-- the call is refused with r exactly if r applies and none that it tests before r does, and is accepted exactly if none applies; and so by what is returned. What it is
+-- refused with stands in the order
 pub record AnswersBy {A : Type 0} (order : List ℕ) (applies : ℕ → Type 0) (a : Answer A) : Type 0 where
   pub refuses : (r : ℕ) → (a ≡ refused r) ↔ First order applies r
   pub accepts : ((x : A) × (a ≡ accepted x)) ↔ None applies
   pub returns : (r : ℕ) → 0 < r → (status a ≡ r) ↔ First order applies r
   pub returns-0 : (status a ≡ 0) ↔ None applies
+  pub listed : (r : ℕ) → a ≡ refused r → Listed order r
+
+-- ---- what a route costs: (2.12) once more, in plain sums over the places 0 to n - 1 of the doors d 0 .. d (n - 1), driven from point p
+
+-- the sum of f j over the j from i to n - 1
+abbrev pub sumFrom : ℕ → ℕ → (ℕ → ℕ) → ℕ
+sumFrom i n f = sumBelow (n - i) (λ k. f (i + k))
+
+-- the point before leg i: p, or where door i - 1 departs
+abbrev pub pointBefore : Sheet → ℕ → (ℕ → ℕ) → ℕ → ℕ
+pointBefore S p d zero = p
+pointBefore S p d (suc i) = S .depart (d i)
+
+-- L i is E plus the w of the tasks of d i .. d (n - 1), at every leg i: with all that these take away it is E and all that they add
+abbrev pub LoadsAre : Sheet → ℕ → (ℕ → ℕ) → (ℕ → ℕ) → Type 0
+LoadsAre S n d L =
+    (i : ℕ) → i < n → L i + sumFrom i n (λ j. down (S .change (S .task (d j)))) ≡ S .endLoad + sumFrom i n (λ j. up (S .change (S .task (d j))))
+
+-- of how many j from i on bit t of the tasks that rule r watches is 1, t the task of d j
+abbrev pub watchedFrom : Sheet → ℕ → (ℕ → ℕ) → ℕ → ℕ → ℕ
+watchedFrom S n d i r = sumFrom i n (λ j. S .watched r / 2 ^ S .task (d j) % 2)
+
+-- what rule r costs on leg i: its charge, if it is on d i and its least count is at most that many
+abbrev pub chargeOn : Sheet → ℕ → (ℕ → ℕ) → ℕ → ℕ → ℕ
+chargeOn S n d i r = cond (eqb (S .ruleDoor r) (d i) && leb (S .leastCount r) (watchedFrom S n d i r)) (S .charge r) 0
+
+-- leg i costs distance times L i, the work of d i, and what every rule costs on it
+abbrev pub legSum : Sheet → ℕ → ℕ → (ℕ → ℕ) → (ℕ → ℕ) → ℕ → ℕ
+legSum S p n d L i = S .distance (pointBefore S p d i) (S .arrive (d i)) * L i + S .work (d i) + sumBelow (S .rules) (chargeOn S n d i)
+
+-- the route costs its legs, and the end cost of where the van stands behind the last
+abbrev pub routeSum : Sheet → ℕ → ℕ → (ℕ → ℕ) → (ℕ → ℕ) → ℕ
+routeSum S p n d L = sumBelow n (legSum S p n d L) + S .endCost (pointBefore S p d n)
+
+-- the tasks of the doors are the sheet's, and differ
+pub record OwnTasks (S : Sheet) (n : ℕ) (d : ℕ → ℕ) : Type 0 where
+  pub below : (i : ℕ) → i < n → S .task (d i) < S .tasks
+  pub differ : (i j : ℕ) → i < j → j < n → S .task (d i) ≡ S .task (d j) → ⊥
+
+-- the route has such L, and costs c by them
+pub record CostsSum (S : Sheet) (p n : ℕ) (d : ℕ → ℕ) (c : ℕ) : Type 0 where
+  pub loads : ℕ → ℕ
+  pub loads-are : LoadsAre S n d loads
+  pub costs : c ≡ routeSum S p n d loads
+
+-- door i of a list of doors
+abbrev pub doorOf : List ℕ → ℕ → ℕ
+doorOf ds i = getD ds i 0
+
+-- of a sheet that reads
+pub record SumsHold (b : List ℕ) : Type 0 where
+  -- every solution, and every completion of a closed list from every point, has such L and costs such a sum
+  pub solutions : (s : ℕ) (ds : List ℕ) → isSolution (decode b) s ds ≡ true
+      → CostsSum (decode b) (decode b .startPoint s) (length ds) (doorOf ds) (roundCost (decode b) s ds)
+  pub completions : (K p : ℕ) (ds : List ℕ) → K < 2 ^ decode b .tasks → Closed (decode b) K → isCompletion (decode b) K ds ≡ true
+      → CostsSum (decode b) p (length ds) (doorOf ds) (cost (decode b) p ds)
+  -- a plan that 30 to 33 do not refuse costs such a sum, and gets 34 exactly if it states another number
+  pub gets-34 : (q : List ℕ) → ((r : ℕ) → Between 30 33 r → validate b q ≡ refused r → ⊥)
+      → (c : ℕ) × CostsSum (decode b) (decode b .startPoint (startStated q)) (tasksStated b) (doorStated q) c
+      × ((validate b q ≡ refused 34) ↔ (costStated (tasksStated b) q ≡ c → ⊥))
+  -- the cost that planning answers is the sum of the plan that it leaves in the buffer
+  pub planned : (cells buffer : List ℕ) (c : ℕ) → plan b cells buffer .answer ≡ accepted c
+      → CostsSum (decode b) (decode b .startPoint (startStated (plan b cells buffer .bytes))) (tasksStated b) (doorStated (plan b cells buffer .bytes)) c
+  -- and each cell of a closed list is the sum of some completion
+  pub cells : (cells buffer : List ℕ) (c : ℕ) → plan b cells buffer .answer ≡ accepted c
+      → (K p : ℕ) → K < 2 ^ decode b .tasks → Closed (decode b) K → p < decode b .points
+      → (ds : List ℕ) × (isCompletion (decode b) K ds ≡ true)
+      × CostsSum (decode b) p (length ds) (doorOf ds) (getD (plan b cells buffer .cells) (K * decode b .points + p) 0)
+  -- every essential list is the list of the tasks of d i .. d (N - 1) for some solution and some i
+  pub lists-met : (K : ℕ) → 1 ≤ K → K < 2 ^ decode b .tasks → Closed (decode b) K
+      → (s : ℕ) × (ds : List ℕ) × (i : ℕ) × (isSolution (decode b) s ds ≡ true) × (i < decode b .tasks)
+      × (K ≡ sumFrom i (decode b .tasks) (λ j. 2 ^ decode b .task (doorOf ds j)))
+
+-- ---- what is printed
+
+-- line k for a plan of n doors: the cost, the start, and a line for each step; `open` before step i is the sum of 2^t over the tasks t of d i .. d (n - 1). Byte 10 ends it
+abbrev pub lineText : Sheet → ℕ → ℕ → ℕ → (ℕ → ℕ) → ℕ → List ℕ
+lineText S c s n d zero = ascii "cost " ++ decimal c ++ (10 ∷ [])
+lineText S c s n d (suc zero) = ascii "start " ++ decimal s ++ (10 ∷ [])
+lineText S c s n d (suc (suc i)) =
+    ascii "door " ++ decimal (d i) ++ ascii " task " ++ decimal (S .task (d i)) ++ ascii " open " ++ decimal (sumFrom i n (λ j. 2 ^ S .task (d j))) ++ (10 ∷ [])
+
+-- what is printed for the sheet b with these cells, by what planning into some 56 bytes answers and leaves there
+pub record PrintingHolds (b cells : List ℕ) : Type 0 where
+  -- where it answers, N + 2 lines
+  pub answered : (room : List ℕ) (c : ℕ) → length room ≡ 56 → plan b cells room .answer ≡ accepted c
+      → printedWith (length cells) b
+      ≡ flatMapBelow (tasksStated b + 2) (lineText (decode b) c (startStated (plan b cells room .bytes)) (tasksStated b) (doorStated (plan b cells room .bytes)))
+  -- where it refuses, one line
+  pub refuses : (room : List ℕ) (r : ℕ) → length room ≡ 56 → plan b cells room .answer ≡ refused r
+      → printedWith (length cells) b ≡ ascii "refused " ++ decimal r ++ (10 ∷ [])
+  -- the text is put to the front of a buffer that has room for it, and nothing is put into another
+  pub fits : (buffer : List ℕ) → length (printedWith (length cells) b) ≤ length buffer
+      → (print b cells buffer .written ≡ length (printedWith (length cells) b))
+      × (print b cells buffer .bytes ≡ printedWith (length cells) b ++ drop (length (printedWith (length cells) b)) buffer)
+  pub does-not-fit : (buffer : List ℕ) → length buffer < length (printedWith (length cells) b)
+      → (print b cells buffer .written ≡ 0) × (print b cells buffer .bytes ≡ buffer)
+  -- the cells are left as that planning leaves them, whatever buffer the text is put into
+  pub cells-left : (buffer room : List ℕ) → length room ≡ 56 → print b cells buffer .cells ≡ plan b cells room .cells
 
 -- ---- all of it
 
 pub record FiguresHold : Type 0 where
+  -- a number of k bytes is the sum of byte j times 256^j, and w is in two's complement
+  pub numbers : (k : ℕ) (b : List ℕ) (i : ℕ) → numberAt k b i ≡ sumBelow k (λ j. getD b (i + j) 0 * 256 ^ j)
+  pub signs : (n : ℕ) → n < 65536 → (n < 32768 → signed 2 n ≡ pos n) × (32768 ≤ n → signed 2 n +ℤ pos 65536 ≡ pos n)
   -- every field of a sheet stands where document 01 puts it
   pub stands-at : (b : List ℕ) → StandsAt b (decode b)
   -- each call is refused with its numbers, and accepts, exactly where document 01 says so
@@ -262,6 +391,8 @@ pub record FiguresHold : Type 0 where
   pub writing-a-plan : (n start : ℕ) (doors : List ℕ) (c : ℕ) (buffer : List ℕ)
       → AnswersBy writingOrder (WritingApplies n (length doors) (length buffer)) (writePlan n start doors c buffer .answer)
   pub reading-a-plan : (n lent : ℕ) (q : List ℕ) → AnswersBy readingPlanOrder (ReadingPlanApplies n lent q) (readPlan n lent q)
+  -- what reading a plan answers: the start, of the doors lent the first n as stated and 0 from n on, and the cost
+  pub plan-read : (n lent : ℕ) (q : List ℕ) (x : PlanRead) → readPlan n lent q ≡ accepted x → ReadAs n lent q x
   -- with twelve doors lent, as document 01 has it, 12 is for N outside 1 to 12 alone
   pub writing-twelve : (n start : ℕ) (doors : List ℕ) (c : ℕ) (buffer : List ℕ) → length doors ≡ 12
       → (writePlan n start doors c buffer .answer ≡ refused 12) ↔ (Between 1 12 n → ⊥)
@@ -272,5 +403,9 @@ pub record FiguresHold : Type 0 where
       → distancesStated b ≡ 1 → length b ≡ 66
   pub longest : (b : List ℕ) → RightPlaces b → tasksStated b ≡ 12 → doorsStated b ≡ 64 → startsStated b ≡ 16 → pairsStated b ≡ 32 → rulesStated b ≡ 32 → pointsStated b ≡ 64
       → distancesStated b ≡ 4096 → length b ≡ 9638
-  -- the print program loses nothing by reading at most 9,639 bytes
+  -- what a route costs, in plain sums: of every route whose tasks are the sheet's and differ, and which has such L
+  pub costs-sum : (S : Sheet) (p n : ℕ) (d L : ℕ → ℕ) → OwnTasks S n d → LoadsAre S n d L → cost S p (mapBelow n d) ≡ routeSum S p n d L
+  pub sums : (b : List ℕ) → status (readSheet b) ≡ 0 → SumsHold b
+  -- what is printed; and the print program loses nothing by reading at most 9,639 bytes
+  pub printing : (b cells : List ℕ) → PrintingHolds b cells
   pub cut-input : (input : List ℕ) → printed input ≡ printedWith 4096 input

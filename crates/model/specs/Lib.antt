@@ -20,6 +20,7 @@ pub mod Lightest
 pub mod Figures
 pub mod Examples
 pub mod Neighbours
+pub mod Corners
 pub mod Method
 unfoldable pub use Folds.{countBelow, isBetween, mapBelow}
 pub use Folds.{allBelow, anyBelow, sumBelow, flatMapBelow, passingBelow, listsBelow, allIn, keepIf, isEmpty, cheaper, firstLeast, least}

@@ -1,11 +1,11 @@
 -- The legs of a route, from its last step to its first: before each turn the sum is the legs of the steps from there on, and the load
 -- that of the list that is open there. A step adds its leg and joins its task, which is new to the list because no task stands twice;
 -- and no part of the sum is above the cost. Assumes nothing.
-use Rattle.model.proofs.Basics.{_≡_, refl, sym, ap, ap₂, _∙_, ⊎-elim, List, [], _∷_, map, ℕ, zero, suc, _+_, _-_, _*_, _^_, _≤_, _<_}
+use Rattle.model.proofs.Basics.{_≡_, refl, sym, ap, ap₂, _∙_, ⊎-elim, List, [], _∷_, ℕ, zero, suc, _+_, _-_, _*_, _^_, _≤_, _<_}
 use Rattle.model.proofs.Basics.{le-refl, arith, T, length, getD, drop, length-map, drop-cons, drop-length, ℤ, pos, natAbs}
 use Rattle.model.specs.{countOf, bit, with, maskOf, load, legs, decode}
 use Rattle.model.specs.Sheet.{Sheet}
-use Rattle.model.proofs.Tools.Positions.{map-at}
+use Rattle.model.proofs.Tools.Positions.{map-at, drop-map}
 use Rattle.model.proofs.TaskLists.Masks.{bit-cases, bit-member}
 use Rattle.model.proofs.TaskLists.Counting.{count-cons, count-member}
 use Rattle.model.proofs.Theory.Solutions.{door-in}
@@ -33,11 +33,6 @@ count-drop : (t i : ℕ) (xs : List ℕ) → countOf t (drop i xs) ≤ countOf t
 count-drop t zero xs = le-refl (countOf t xs)
 count-drop t (suc i) [] = le-refl 0
 count-drop t (suc i) (x ∷ xs) = omega (arith, count-drop t i xs)
-
-drop-map : (f : ℕ → ℕ) (i : ℕ) (xs : List ℕ) → drop i (map f xs) ≡ map f (drop i xs)
-drop-map f zero xs = refl
-drop-map f (suc i) [] = refl
-drop-map f (suc i) (x ∷ xs) = drop-map f i xs
 
 -- a task that stands once is not in the list behind it
 task-new : (ts : List ℕ) → ((t : ℕ) → countOf t ts ≤ 1) → (i : ℕ) → i < length ts → bit (maskOf (drop (suc i) ts)) (getD ts i 0) ≡ 0

@@ -1,9 +1,9 @@
 -- Numbers and their bytes: what was written is read again, and what was read is written again. Assumes nothing.
 use Rattle.model.proofs.Basics.{_≡_, refl, sym, ap, ap₂, _∙_, true, List, [], _∷_, _++_, append-assoc, append-nil, ℕ, zero, suc, _+_}
-use Rattle.model.proofs.Basics.{_*_, _/_, _%_, _^_, _≤_, _<_, mul-le-mul-left, arith, ltb, length, getD, take, drop, length-append}
+use Rattle.model.proofs.Basics.{_*_, _/_, _%_, _^_, _≤_, _<_, add-zero, suc-add, add-suc, mul-assoc, pow-suc, mul-le-mul-left, arith, ltb, length, getD, take, drop, length-append}
 use Rattle.model.proofs.Basics.{List·getD-append, drop-cons, take-append-seam, take-add, drop-append-seam, areBytes, ltb-true}
-use Rattle.model.specs.{flatMapBelow, numberAt, bytesOf, overwrite}
-use Rattle.model.proofs.Tools.Tests.{and-left, and-right, by-last}
+use Rattle.model.specs.{sumBelow, flatMapBelow, numberAt, bytesOf, overwrite}
+use Rattle.model.proofs.Tools.{Tests.and-left, Tests.and-right, Tests.by-last, Folds.sum-cong, Folds.sum-first, Folds.sum-times}
 
 -- ---- bytes
 
@@ -24,6 +24,23 @@ pub number-lt : (k : ℕ) (b : List ℕ) (i : ℕ) → areBytes b ≡ true → n
 unfolding numberAt
 number-lt zero b i h = omega arith
 number-lt (suc k) b i h = omega (arith, number-lt k b (suc i) h, byte-lt b i h)
+
+-- which is the sum of byte j times 256 to the j
+pub number-sum : (k : ℕ) (b : List ℕ) (i : ℕ) → numberAt k b i ≡ sumBelow k (λ j. getD b (i + j) 0 * 256 ^ j)
+unfolding numberAt
+number-sum zero b i = refl
+number-sum (suc k) b i =
+    ap₂ (λ (x y : ℕ). x + 256 * y) (ap (λ (j : ℕ). getD b j 0) (sym (add-zero i)))
+    (number-sum k b (suc i) ∙ sum-cong k _ _ (λ j l. ap (λ (m : ℕ). getD b m 0 * 256 ^ j) (suc-add i j ∙ sym (add-suc i j))))
+    ∙ omega (
+      arith,
+      sum-times k 256 (λ j. getD b (i + suc j) 0 * 256 ^ j),
+      sum-first k (λ j. getD b (i + j) 0 * 256 ^ j),
+      sum-cong k (λ j. 256 * (getD b (i + suc j) 0 * 256 ^ j)) (λ j. getD b (i + suc j) 0 * 256 ^ suc j) (λ j l. shift (getD b (i + suc j) 0) j),
+    )
+  where
+    shift : (x j : ℕ) → 256 * (x * 256 ^ j) ≡ x * 256 ^ suc j
+    shift x j = rw (pow-suc 256 j) (omega (arith, mul-assoc x (256 ^ j) 256))
 
 -- ---- where a number is read
 

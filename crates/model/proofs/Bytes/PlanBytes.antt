@@ -117,6 +117,10 @@ pub array-at : (lent n : ℕ) (f : ℕ → ℕ) (i : ℕ) → n ≤ lent → i <
 unfolding doorArray
 array-at lent n f i h l = mapBelow-at lent (λ i. cond (ltb i n) (f i) 0) i 0 (omega arith) ∙ rw (lt-ltb i n l)
 
+pub array-beyond : (lent n : ℕ) (f : ℕ → ℕ) (i d : ℕ) → n ≤ i → i < lent → getD (doorArray lent n f) i d ≡ 0
+unfolding doorArray
+array-beyond lent n f i d h l = mapBelow-at lent (λ i. cond (ltb i n) (f i) 0) i d l ∙ rw (le-ltb i n h)
+
 pub array-front : (lent n : ℕ) (ds : List ℕ) → n ≤ lent → length ds ≡ n → take n (doorArray lent n (λ i. getD ds i 0)) ≡ ds
 unfolding doorArray
 array-front lent n ds h e =

@@ -6,10 +6,10 @@ use Rattle.model.proofs.Basics.{not-false}
 use Rattle.model.specs.{Answer.Answer, isBetween, anyBelow, bit, essential, load, lightList, kind1, fieldWidth, bytesBefore, entryBytes, lineAt}
 use Rattle.model.specs.{lineBody, lineOffset, entries, bodyAt, fieldAt, decodeBy, layoutOf, decode, tooShort, wrongKind, wrongEntries}
 use Rattle.model.specs.{someWrongEntries, wrongLine, wrongLength, wrongPlaces, outOfRange, lacksDoor, someLacksDoor, tooLight}
-use Rattle.model.specs.{sheetTests, unlessFault, readSheet, numberAt, signed, refused, accepted, Test, Plan, planCost, cheapest}
+use Rattle.model.specs.{sheetTests, unlessFault, readSheet, InRange, numberAt, signed, refused, accepted, Test, Plan, planCost, cheapest}
 use Rattle.model.specs.{cellsNeeded, fewCells, roomTests, orNoOrder, planFor, carriedOut, plan, shortRoom}
 use Rattle.model.specs.Figures.{tasksStated, pointsStated, StandsAt, Between, RightEntries, RightPlaces, RightRanges, SheetApplies}
-use Rattle.model.specs.Figures.{is10, is11, is12, is13, is14, is15, is16, is17, HasTask, BelowZero, PlanningApplies, sheetOrder, planningOrder, AnswersBy}
+use Rattle.model.specs.Figures.{is10, is11, is12, is13, is14, is15, is16, is17, Closed, BelowZero, PlanningApplies, sheetOrder, planningOrder, AnswersBy}
 use Rattle.model.proofs.Tools.Refusing.{refused≢accepted, refused-number, Applies, refuse-append, pass-append, applies-append}
 use Rattle.model.proofs.Tools.Refusing.{answers-by}
 use Rattle.model.proofs.Tools.Tests.{or-left, or-right, between-is, all-at, all-below, none-at, any-true, one-passes, passes-unless}
@@ -115,8 +115,27 @@ module _ (b : List ℕ) where
   right-ranges : (outOfRange (layoutOf b) (decode b) ≡ false) ↔ RightRanges (decode b)
   unfolding layoutOf kind1
   right-ranges = (
-    (λ h. record { named = in-range kind1 (decode b) h; leastCount = least-counts kind1 (decode b) h }),
-    (λ h. range-passes kind1 (decode b) (h .named) (h .leastCount)),
+    (λ h. let R : InRange (decode b) = in-range kind1 (decode b) h in record {
+      task = R .task;
+      arrive = R .arrive;
+      depart = R .depart;
+      startPoint = R .start;
+      sender = R .sender;
+      receiver = R .receiver;
+      ruleDoor = R .ruleDoor;
+      watched = R .watched;
+      leastCount = least-counts kind1 (decode b) h;
+    }),
+    (λ h. range-passes kind1 (decode b) (record {
+      task = h .task;
+      arrive = h .arrive;
+      depart = h .depart;
+      start = h .startPoint;
+      sender = h .sender;
+      receiver = h .receiver;
+      ruleDoor = h .ruleDoor;
+      watched = h .watched;
+    }) (h .leastCount)),
   )
 
   short : (tooShort b ≡ true) ↔ (length b < 46)
@@ -141,8 +160,7 @@ module _ (b : List ℕ) where
   below-zero K = rw (load-negative (decode b) K) (ltb-true _ _, lt-ltb _ _)
 
   too-light : (tooLight (decode b) ≡ true)
-      ↔ ((K : ℕ) × (1 ≤ K) × (K < 2 ^ decode b .tasks)
-      × ((i : ℕ) → i < decode b .pairs → HasTask K (decode b .sender i) → HasTask K (decode b .receiver i)) × BelowZero (decode b) K)
+      ↔ ((K : ℕ) × (1 ≤ K) × (K < 2 ^ decode b .tasks) × Closed (decode b) K × BelowZero (decode b) K)
   unfolding tooLight lightList bit
   too-light = (
     (λ h. let r = one-passes (2 ^ decode b .tasks) (lightList (decode b)) h in
@@ -251,10 +269,12 @@ planning-answers b cells buffer = go (planFor b (length cells) (length buffer)) 
       accepts = ((λ x. absurd (refused≢accepted (x .1))), (λ k. absurd (refused≢accepted (h .accepts .1 k .1))));
       returns = h .returns;
       returns-0 = h .returns-0;
+      listed = λ r e. h .listed r (ap refused (refused-number e));
     }
     go (accepted x) h = record {
       refuses = λ r. ((λ e. absurd (refused≢accepted (sym e))), (λ k. absurd (refused≢accepted (sym (h .refuses r .1 k)))));
       accepts = ((λ y. h .accepts .0 (x, refl)), (λ k. (planCost (decode b) x, refl)));
       returns = h .returns;
       returns-0 = h .returns-0;
+      listed = λ r e. absurd (refused≢accepted (sym e));
     }

@@ -7,7 +7,7 @@ use Rattle.model.specs.Demands.{Lent, Cheapest, Demand3, Demand1Returned
 use Rattle.model.proofs.Tools.Refusing.{returned, returned-refusal}
 use Rattle.model.proofs.Calls.{Figures.reading-answers, Figures.planning-answers, Demands.demand-1, Demands.demand-2}
 use Rattle.model.proofs.Calls.{Demands.demand-3, Room.gets-20, Room.gets-21, Room.gets-0, Reading.Reads, Reading.accepted-reads}
-use Rattle.model.proofs.{Bytes.PlanBytes.read-with, Calls.PlanFigures.plan-reading-answers, Calls.Judged.validating-answers}
+use Rattle.model.proofs.{Bytes.PlanBytes.read-with, Calls.PlanFigures.plan-reading-answers, Calls.PlanFigures.plan-read, Calls.Judged.validating-answers}
 
 -- ---- what is returned
 
@@ -56,6 +56,15 @@ demand-1-returned = record {
   planning = λ b cells buffer n. demand-1 .planning b cells buffer _ (returned (plan b cells buffer .answer) n);
   writing-a-plan = λ n start doors c buffer k. demand-1 .writing-a-plan n start doors c buffer _ (returned (writePlan n start doors c buffer .answer) k);
   reads-first = λ b cells buffer q n. let r = demand-1 .reads-first b _ (returned (readSheet b) n) cells buffer q in (ap status (r .0), ap status (r .1));
+  reading-leaves = λ b t p n. (left-alone _ (readSheet b) t n, left-alone _ (readSheet b) p n);
+  planning-leaves = λ b cells buffer before n. left-alone _ (plan b cells buffer .answer) before n;
+  writing-leaves = λ n start doors c buffer before k. left-alone _ (writePlan n start doors c buffer .answer) before k;
+  reading-a-plan-leaves = λ n q start doors c k. (
+    left-alone _ (readPlan n (length doors) q) start k,
+    left-alone _ (readPlan n (length doors) q) doors k,
+    left-alone _ (readPlan n (length doors) q) c k,
+  );
+  judging-leaves = λ b q before n. left-alone _ (validate b q) before n;
 }
 
 -- ---- demand 2
@@ -74,6 +83,10 @@ demand-2-returned = record {
   written-then-read = λ n start doors c buffer start' doors' c' one few there here hs hd hc room.
       let w = demand-2 .written-then-read n start doors c buffer (length doors') one few there here hs hd hc room in
       rw (w .1) (refl, w .2, w .3, w .4);
+  zeros-left = λ n q doors e.
+      let x = returned-accepted (plan-reading-answers n (length doors) q) e in
+      let r = plan-read n (length doors) q (x .0) (x .1) in
+      rw (x .1) (r .as-many, r .zeros);
   read-then-written = λ n q start doors c buffer hq e same.
       let x = returned-accepted (plan-reading-answers n (length doors) q) e in
       rw (x .1) (demand-2 .read-then-written n (length doors) q (x .0) hq (x .1) buffer same);

@@ -7,17 +7,16 @@ use Rattle.model.specs.{Sheet.Sheet, InRange, full, notInSheet, doneTwic
 use Rattle.model.specs.{mapBelow, countOf, indexOf, inSheet, isOrder, keepsPair, keepsEveryPair, isAdmissible, noOrder, accepted}
 use Rattle.model.specs.{Test, planStartAt, planDoorsAt, planCostAt, illFormed, startIn, doorIn, doorsIn, costIn, lineAt, entries}
 use Rattle.model.specs.{decodeBy, layoutOf, decode, sheetTests, unlessFault}
-use Rattle.model.specs.Figures.{tasksStated, doorsStated, LaidOut, startStated, doorStated, ValidatingApplies, validatingOrder, Before, AnswersBy, FiguresHold}
+use Rattle.model.specs.Figures.{tasksStated, doorsStated, LaidOut, startStated, doorStated, ValidatingApplies, validatingOrder, Before, AnswersBy}
 use Rattle.model.proofs.Tools.Tests.{not-both, and-right, or-right, all-at, all-false, one-fails, none-at, any-true, one-passes}
 use Rattle.model.proofs.Tools.Tests.{passes-unless, by-test}
-use Rattle.model.proofs.Tools.Positions.{StandsIn, counted-twice, stands-twice, index-stands, index-first, fails-somewhere, map-at}
+use Rattle.model.proofs.Tools.Positions.{StandsIn, counted-twice, stands-twice, index-stands, index-first, fails-somewhere, image-stands}
 use Rattle.model.proofs.Tools.Refusing.{Applies, refuse-append, applies-append, applies-before, pass-none, answers-by}
-use Rattle.model.proofs.Calls.Figures.{stands-at, sheet-applies, lengths-between, reading-answers, planning-answers}
-use Rattle.model.proofs.Calls.PlanFigures.{writing-answers, well-formed, plan-reading-answers, writing-twelve, reading-twelve}
+use Rattle.model.proofs.Calls.{Figures.sheet-applies, PlanFigures.well-formed}
 use Rattle.model.proofs.Calls.Reading.{Reads, all-reads, counts-read}
 use Rattle.model.proofs.{Tools.Folds.length-mapBelow, Tools.Folds.mapBelow-at, Tools.Elements.in-at, TaskLists.Masks.full-bit}
 use Rattle.model.proofs.{TaskLists.Counting.order-count, TaskLists.Counting.order-of-all, Theory.Enumerations.has-order}
-use Rattle.model.proofs.{Bytes.Ranges.in-range, Calls.Validating.tasks-below, Calls.Printing.cut-input}
+use Rattle.model.proofs.{Bytes.Ranges.in-range, Calls.Validating.tasks-below}
 
 -- ---- the tasks as driven, by their places
 
@@ -33,15 +32,12 @@ module _ (S : Sheet) (n : ℕ) (door : ℕ → ℕ) where
   length-tasks = length-map doors (S .task) ∙ length-mapBelow n door
 
   -- task i is that of door i
-  task-at : (i : ℕ) → i < n → getD tasks i 0 ≡ S .task (door i)
-  task-at i l = map-at (S .task) doors i (rw length-mapBelow l) ∙ ap (S .task) (mapBelow-at n door i 0 l)
-
   stands : (i : ℕ) → i < n → StandsIn tasks i (S .task (door i))
-  stands i l = (rw length-tasks l, task-at i l)
+  stands = image-stands (S .task) door n
 
   -- and what stands at a place is the task of its door
   stands-door : (i t : ℕ) → StandsIn tasks i t → (i < n) × (S .task (door i) ≡ t)
-  stands-door i t h = let l : i < n = rw length-tasks at (h .0) in (l, sym (task-at i l) ∙ h .1)
+  stands-door i t h = let l : i < n = rw length-tasks at (h .0) in (l, sym (stands i l .1) ∙ h .1)
 
   -- ---- 31
 
@@ -235,20 +231,3 @@ module _ (b q : List ℕ) where
   unfolding validate unlessFault sheetTests planTests routeTests
   validating-answers = rw (refuse-append (sheetTests b) own (accepted (costIn (S .tasks) q)))
       (answers-by validatingOrder both _ (ValidatingApplies b q) refl (λ p. (_, refl)) validating-applies)
-
--- ---- all of document 01's figures
-pub figures : FiguresHold
-figures = record {
-  stands-at = stands-at;
-  reading = reading-answers;
-  planning = planning-answers;
-  validating = validating-answers;
-  writing-a-plan = writing-answers;
-  reading-a-plan = plan-reading-answers;
-  writing-twelve = writing-twelve;
-  reading-twelve = reading-twelve;
-  lengths = lengths-between;
-  shortest = λ b h n d s q r p m. omega (arith, h .ends);
-  longest = λ b h n d s q r p m. omega (arith, h .ends);
-  cut-input = cut-input;
-}

@@ -1,14 +1,15 @@
 -- Writing and reading a plan are refused with each of their numbers, and accept, exactly where document 01 says so. Assumes nothing.
 use Rattle.model.proofs.Basics.{_≡_, refl, sym, ap, ap₂, _∙_, _≢_, _⊎_, inl, inr, ⊎-elim, _↔_, Bool, true, false, not, true≢false}
 use Rattle.model.proofs.Basics.{List, [], _∷_, ℕ, _+_, _*_, _/_, _%_, _≤_, _<_, arith, eqb, ltb, lit<, length, eqb-true, eq-eqb, ltb-true}
-use Rattle.model.proofs.Basics.{ltb-false, not-false}
+use Rattle.model.proofs.Basics.{ltb-false, not-false, _^_, getD, ext-getD}
 use Rattle.model.specs.{PlanRead, shortRoom, accepted, refuseFirst, _when_, sameList, lineAt, bytesOf, refused, planStartAt}
 use Rattle.model.specs.{planDoorsAt, planCostAt, planLength, lineBytes, planHead, wrongTasks, writeTests, writeAnswer, writePlan}
-use Rattle.model.specs.{wrongHead, illFormed, readTests, readPlan}
-use Rattle.model.specs.Figures.{Between, LaidOut, WritingApplies, ReadingPlanApplies, writingOrder, readingPlanOrder, Before, AnswersBy}
-use Rattle.model.proofs.Tools.Refusing.{Applies, answers-by, refused-number, refused≢accepted}
+use Rattle.model.specs.{wrongHead, illFormed, readTests, readPlan, mapBelow, numberAt, overwrite, planBytes, startIn, doorIn, costIn}
+use Rattle.model.specs.Figures.{Between, LaidOut, startStated, doorStated, ReadAs, WritingApplies, ReadingPlanApplies, writingOrder, readingPlanOrder, Before, AnswersBy}
+use Rattle.model.proofs.Tools.Refusing.{Applies, answers-by, refused-number, refused≢accepted, accepted-pass, accepted-value}
 use Rattle.model.proofs.Tools.Tests.{not-both, or-left, or-right, or-neither, passes-unless, same-list, list-same, by-test}
-use Rattle.model.proofs.{Bytes.PlanBytes.length-is, Bytes.PlanBytes.tasks-fit, Bytes.PlanBytes.fitting, Calls.Figures.short-room}
+use Rattle.model.proofs.Bytes.PlanBytes.{length-is, tasks-fit, fitting, length-plan, start-again, door-again, length-array, array-at, array-beyond}
+use Rattle.model.proofs.{Bytes.Numbers.number-front, Tools.Folds.length-mapBelow, Tools.Folds.mapBelow-at, Calls.Figures.short-room}
 
 -- 12: N is outside 1 to 12, or fewer doors than N are lent
 wrong-tasks : (n lent : ℕ) → (wrongTasks n lent ≡ true) ↔ ((Between 1 12 n → ⊥) ⊎ (lent < n))
@@ -113,3 +114,39 @@ unfolding readPlan readTests
 reading-twelve n q =
     let f = first-refused {A = PlanRead} 12 30 (wrongTasks n 12) (illFormed n q) _ (λ d. omega arith) in
     ((λ h. twelve n 12 refl .0 (f .0 h)), (λ h. f .1 (twelve n 12 refl .1 h)))
+
+-- ---- what is stated at the front of a buffer that a plan was written into
+
+module _ (n s : ℕ) (ds : List ℕ) (c : ℕ) (buffer : List ℕ) where
+  abbrev written : List ℕ
+  written = overwrite (planBytes n s ds c) buffer
+
+  front : (k i : ℕ) → i + k ≤ 32 + 2 * n → numberAt k written i ≡ numberAt k (planBytes n s ds c) i
+  unfolding overwrite
+  front k i h = number-front k (planBytes n s ds c) _ i (omega (arith, length-plan n s ds c, length-is n))
+
+  pub stated-start : s < 2 ^ 16 → startStated written ≡ s
+  unfolding startIn planStartAt lineAt
+  stated-start h = front 2 22 (omega arith) ∙ start-again n s ds c h
+
+  pub stated-doors : length ds ≡ n → ((i : ℕ) → i < n → getD ds i 0 < 2 ^ 16) → mapBelow n (doorStated written) ≡ ds
+  unfolding doorIn planDoorsAt planStartAt lineAt
+  stated-doors e h = ext-getD 0 _ ds (length-mapBelow n _ ∙ sym e) (λ i l.
+      let m : i < n = rw length-mapBelow at l in
+      mapBelow-at n (doorStated written) i 0 m ∙ front 2 (24 + 2 * i) (omega arith) ∙ door-again n s ds c i m (h i m))
+
+-- ---- what reading answers
+
+pub plan-read : (n lent : ℕ) (q : List ℕ) (x : PlanRead) → readPlan n lent q ≡ accepted x → ReadAs n lent q x
+unfolding readPlan readTests startIn doorIn costIn planStartAt planDoorsAt planCostAt lineAt
+plan-read n lent q x e =
+    let p = accepted-pass (readTests n lent q) _ x e in
+    let v = accepted-value (p .1) in
+    let fit = fitting n lent (p .0 .0) in
+    rw (← v) (record {
+      start = refl;
+      as-many = length-array lent n (doorStated q);
+      doors = λ i l. array-at lent n (doorStated q) i (fit .2) l;
+      zeros = λ i l m. array-beyond lent n (doorStated q) i 1 l m;
+      cost = refl;
+    })

@@ -1,8 +1,8 @@
 -- What planning answers and leaves in cells and buffer; a sheet that reads has a plan, as every list has a completion. Assumes nothing.
-use Rattle.model.proofs.Basics.{_≡_, sym, ap, _∙_, _⊎_, inl, inr, ⊎-elim, Bool, true, false, List, Option, none, some, ℕ, _+_, _*_}
+use Rattle.model.proofs.Basics.{_≡_, refl, sym, ap, _∙_, _⊎_, inl, inr, ⊎-elim, Bool, true, false, List, Option, none, some, ℕ, _+_, _*_}
 use Rattle.model.proofs.Basics.{_/_, _^_, _≤_, _<_, le-div-iff-mul-le, arith, ltb, length, getD, List·getD-eq-default, ltb-true}
 use Rattle.model.proofs.Basics.{ltb-false, lt-ltb, le-ltb, digits-div, digits-mod}
-use Rattle.model.specs.{Sheet.Sheet, Answer.Answer, pairsAllow, Plan, cheapest, costToGo, refused, accepted, refuseIf}
+use Rattle.model.specs.{Sheet.Sheet, Answer.Answer, pairsAllow, Plan, planCost, cheapest, costToGo, refused, accepted, refuseIf}
 use Rattle.model.specs.{layoutOf, decode, planLength, shortRoom, cellsNeeded, fewCells, roomTests, orNoOrder, planFor}
 use Rattle.model.specs.{cellAfter, cellsAfter, carriedOut, plan, full, Plannable, unlessFault}
 use Rattle.model.proofs.Tools.Refusing.{refused≢accepted, refused-number, accepted-value, accepted-pass}
@@ -67,6 +67,15 @@ refused-planned b cells buffer r = go (planFor b (length cells) (length buffer))
     go : (a : Answer Plan) → carriedOut (decode b) a cells buffer .answer ≡ refused r → a ≡ refused r
     go (refused n) e = ap refused (refused-number e)
     go (accepted x) e = absurd (refused≢accepted (sym e))
+
+pub accepted-planned : (b cells buffer : List ℕ) (c : ℕ) → plan b cells buffer .answer ≡ accepted c
+    → (x : Plan) × (planFor b (length cells) (length buffer) ≡ accepted x) × (planCost (decode b) x ≡ c)
+unfolding plan
+accepted-planned b cells buffer c = go (planFor b (length cells) (length buffer))
+  where
+    go : (a : Answer Plan) → carriedOut (decode b) a cells buffer .answer ≡ accepted c → (x : Plan) × (a ≡ accepted x) × (planCost (decode b) x ≡ c)
+    go (refused n) e = absurd (refused≢accepted e)
+    go (accepted x) e = (x, refl, accepted-value e)
 
 -- a plan that is answered is the cheapest, of a sheet that reads
 pub accepted-plan : (b : List ℕ) (cells room : ℕ) (x : Plan) → planFor b cells room ≡ accepted x → Reads b × (cheapest (decode b) ≡ some x)

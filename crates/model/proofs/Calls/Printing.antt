@@ -9,7 +9,7 @@ use Rattle.model.specs.{refusalLine, planLines, answerLines, printedWith
 use Rattle.model.specs.{someWrongEntries, wrongLine, wrongLength, wrongPlaces, sheetTests, unlessFault}
 use Rattle.model.proofs.Tools.{Refusing.refused≢accepted, Refusing.accepted-value, Tests.or-true, Tests.any-cong, Tests.by-test}
 use Rattle.model.proofs.Bytes.Entries.{entries-within}
-use Rattle.model.proofs.Calls.{Reading.Reads, Planning.accepted-plan, Planning.refused-planned, Passing.end-between}
+use Rattle.model.proofs.Calls.{Reading.Reads, Planning.accepted-planned, Planning.planned, Planning.accepted-plan, Planning.refused-planned, Passing.end-between}
 
 module _ (b cells buffer : List ℕ) (as-long : length buffer ≡ planLength maxPlanDoors) where
   same-room : planFor b (length cells) (length buffer) ≡ planFor b (length cells) (planLength maxPlanDoors)
@@ -24,19 +24,11 @@ module _ (b cells buffer : List ℕ) (as-long : length buffer ≡ planLength max
   pub prints-plan : (c : ℕ) → plan b cells buffer .answer ≡ accepted c
       → (x : Plan) × (planCost (decode b) x ≡ c) × (printedWith (length cells) b ≡ planLines (decode b) x)
       × (plan b cells buffer .bytes ≡ overwrite (planBytes (decode b .tasks) (x .start) (x .doors) c) buffer) × Reads b × (cheapest (decode b) ≡ some x)
-  unfolding plan printedWith
+  unfolding printedWith
   prints-plan c e =
-      let g = go (planFor b (length cells) (length buffer)) e in
+      let g = accepted-planned b cells buffer c e in
       let r = accepted-plan b (length cells) (length buffer) (g .0) (g .1) in
-      (g .0, g .2, ap (answerLines (decode b)) (sym same-room ∙ g .1), g .3, r .0, r .1)
-    where
-      go : (a : Answer Plan) → carriedOut (decode b) a cells buffer .answer ≡ accepted c
-          → (x : Plan) × (a ≡ accepted x) × (planCost (decode b) x ≡ c)
-          × (carriedOut (decode b) a cells buffer .bytes ≡ overwrite (planBytes (decode b .tasks) (x .start) (x .doors) c) buffer)
-      go (refused n) e = absurd (refused≢accepted e)
-      go (accepted x) e =
-          let v : planCost (decode b) x ≡ c = accepted-value e in
-          (x, refl, v, ap (λ (y : ℕ). overwrite (planBytes (decode b .tasks) (x .start) (x .doors) y) buffer) v)
+      (g .0, g .2, ap (answerLines (decode b)) (sym same-room ∙ g .1), rw (planned b cells buffer (g .0) (g .1), g .2) refl, r .0, r .1)
 
 -- ---- what is cut from a long input
 

@@ -2,13 +2,13 @@
 -- whose every choice leads to a completion. Assumes nothing.
 use Rattle.model.proofs.Basics.{_≡_, sym, ap, _∙_, subst, subst₂, fun-ext, true, List, [], _∷_, map, List·Memᴰ, List·Memᴰ·not-nil}
 use Rattle.model.proofs.Basics.{some, ℕ, suc, _+_, _^_, _≤_, _<_, lt-of-le-of-lt, arith, areBytes}
-use Rattle.model.specs.{Sheet.Sheet, least, without, full, size, canComeFirst, firstDoors, stepCost, isCompletion, completions}
+use Rattle.model.specs.{Sheet.Sheet, least, without, size, canComeFirst, firstDoors, stepCost, isCompletion, completions}
 use Rattle.model.specs.{costToGo, cheapestCompletion, decode, CountsWithin, Plannable}
-use Rattle.model.proofs.TaskLists.Masks.{full-bit, without-le}
+use Rattle.model.proofs.TaskLists.Masks.{without-le}
 use Rattle.model.proofs.Theory.Process.{runs, toGo, through, bellman, FirstStep, first-step, Process}
 use Rattle.model.proofs.Theory.Completions.{Position, driving, completes-is, completions-are, cost-is, to-go-is, cheapest-is}
 use Rattle.model.proofs.Theory.Completions.{standing}
-use Rattle.model.proofs.Theory.Existence.{part, part-within, admissible-is, order-driven}
+use Rattle.model.proofs.Theory.Existence.{part, part-admissible, order-driven}
 use Rattle.model.proofs.Theory.Enumerations.{has-order, completions-enumerated}
 use Rattle.model.proofs.Theory.Bounds.{Limits, sumLimit, WithinLimits, cost-bound, kind1Limits, kind1-sums, kind1-within}
 use Rattle.model.proofs.Theory.Process as process
@@ -25,8 +25,7 @@ module _ (S : Sheet) (G : Plannable S) where
   pub has-completion : (K : ℕ) → (ds : List ℕ) × (isCompletion S K ds ≡ true)
   has-completion K =
       let o = has-order S (G .ordered) in
-      let w = part-within S (G .ranges) (full (S .tasks)) K (λ j l h. full-bit (S .tasks) j l) (o .0) (sym (admissible-is S (G .ranges) (o .0)) ∙ o .1) in
-      let d = order-driven S (G .doors) K (part K (o .0)) w in
+      let d = order-driven S (G .doors) K (part K (o .0)) (part-admissible S (G .ranges) K (o .0) (o .1)) in
       (d .0, d .1)
 
   pub some-completion : (K : ℕ) → completions S K ≡ [] → ⊥

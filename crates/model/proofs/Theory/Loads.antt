@@ -11,7 +11,7 @@ use Rattle.model.proofs.Tools.Tests.{by-test, not-both, and-left, and-r
 
 -- an integer z is `up z` less `down z`
 
-sub-pos : (a b : ℕ) → b ≤ a → subℕ a b ≡ pos (a - b)
+pub sub-pos : (a b : ℕ) → b ≤ a → subℕ a b ≡ pos (a - b)
 sub-pos a b h = rw le-ltb
 
 sub-neg : (a b : ℕ) → a < b → subℕ a b ≡ negsuc (b - suc a)
@@ -96,6 +96,15 @@ not-negative (negsuc n) = ((λ e. absurd (true≢false e)), (λ t. absurd t))
 pub load-negative : (S : Sheet) (K : ℕ) → ltZ (load S K) (pos 0) ≡ ltb (S .endLoad + ups S K (S .tasks)) (downs S K (S .tasks))
 unfolding load
 load-negative S K = ap (λ x. ltZ x (pos 0)) (load-over S K (S .tasks)) ∙ sub-negative (S .endLoad + ups S K (S .tasks)) (downs S K (S .tasks))
+
+-- and otherwise it is what is added less what is taken away
+pub load-number : (S : Sheet) (K : ℕ) → downs S K (S .tasks) ≤ S .endLoad + ups S K (S .tasks)
+    → natAbs (load S K) + downs S K (S .tasks) ≡ S .endLoad + ups S K (S .tasks)
+unfolding load
+load-number S K h = rw (load-over S K (S .tasks), sub-pos (S .endLoad + ups S K (S .tasks)) (downs S K (S .tasks)) h) (omega arith)
+
+pub load-held : (S : Sheet) (K : ℕ) → T (nonNeg (load S K)) → downs S K (S .tasks) ≤ S .endLoad + ups S K (S .tasks)
+load-held S K h = ltb-false _ _ (sym (load-negative S K) ∙ not-negative (load S K) .1 h)
 
 -- 16 does not apply exactly where no essential list has a load below zero
 pub loads-hold : (S : Sheet) → tooLight S ≡ false → LoadsHold S

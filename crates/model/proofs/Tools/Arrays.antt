@@ -1,8 +1,10 @@
 -- The list f 0, f 1, .. below n as an array: filled from the front by a loop, and with one element changed. Assumes nothing.
-use Rattle.model.proofs.Basics.{_≡_, refl, sym, ap, _∙_, _≢_, Bool, true, false, cond, List, _++_, map, append-nil, ℕ, suc, _+_, _≤_}
+use Rattle.model.proofs.Basics.{_≡_, refl, sym, ap, _∙_, _≢_, Bool, true, false, cond, List, _++_, map, append-nil, ℕ, suc, _+_, _-_, _≤_}
 use Rattle.model.proofs.Basics.{_<_, add-one, arith, eqb, ltb, length, getD, drop, set, length-map, length-set, drop-of-length-le}
 use Rattle.model.proofs.Basics.{List·getD-map, drop-cons, ext-getD, getD-set-same, getD-set-other, append-snoc, set-at, eqb-true}
 use Rattle.model.proofs.Basics.{eqb-false, ltb-true, lt-ltb}
+use lib.ListN.{length-drop}
+use lib.Seq.{getD-drop}
 use Rattle.model.specs.{mapBelow, doorArray}
 use Rattle.model.proofs.Tools.{Tests.same-test, Folds.length-mapBelow, Folds.mapBelow-at}
 
@@ -49,6 +51,14 @@ map-elements xs = ext-getD 0 _ xs (length-mapBelow (length xs) _) (λ i l. mapBe
 pub map-places : (g : ℕ → ℕ) (xs : List ℕ) → mapBelow (length xs) (λ i. g (getD xs i 0)) ≡ map g xs
 map-places g xs = ext-getD (g 0) _ (map g xs) (length-mapBelow (length xs) _ ∙ sym (length-map xs g)) (λ i l.
     mapBelow-at (length xs) (λ i. g (getD xs i 0)) i (g 0) (rw length-mapBelow at l) ∙ sym (List·getD-map g xs i 0))
+
+-- its last elements, from i on
+pub drop-mapBelow : (i n : ℕ) (f : ℕ → ℕ) → drop i (mapBelow n f) ≡ mapBelow (n - i) (λ k. f (i + k))
+drop-mapBelow i n f =
+    let long : length (drop i (mapBelow n f)) ≡ n - i = length-drop i (mapBelow n f) ∙ ap (λ (m : ℕ). m - i) (length-mapBelow n f) in
+    ext-getD 0 _ _ (long ∙ sym (length-mapBelow (n - i) _)) (λ k l.
+    let m : k < n - i = rw long at l in
+    getD-drop i (mapBelow n f) k 0 ∙ mapBelow-at n f (i + k) 0 (omega arith) ∙ sym (mapBelow-at (n - i) (λ k. f (i + k)) k 0 m))
 
 -- ---- an array of doors, with one door more
 

@@ -4,7 +4,7 @@
 use Rattle.model.proofs.Basics.{_≡_, refl, sym, ap, _∙_, _⊎_, inl, inr, ⊎-elim, _↔_, Bool, true, false, _&&_, true≢false, List, [], _∷_}
 use Rattle.model.proofs.Basics.{_++_, map, ℕ, zero, suc, _≤_, _<_, arith, eqb, ltb, leb, length, eqb-false, ltb-true, leb-true}
 use Rattle.model.specs.{Answer.Answer, isBetween, allIn, indexOf, refused, accepted, Test, _when_, refuseIf, refuseFirst, status}
-use Rattle.model.specs.Figures.{First, None, AnswersBy}
+use Rattle.model.specs.Figures.{First, None, Listed, AnswersBy}
 use Rattle.model.proofs.Tools.Tests.{not-both, and-left, and-right, between-true, by-last, by-test}
 
 -- ---- answers
@@ -117,21 +117,31 @@ applies-before ((n when t) ∷ ts) ns r h = by-test (eqb n r)
     (λ w. rw w (⊎-elim (λ e. absurd (eqb-false n r w (sym (e .0)))) (λ e. omega (arith, applies-before ts ns r e)) h))
 
 module _ (order : List ℕ) where
-  -- the tests stand in the order, from place m on, and their numbers are above 0
+  -- number n stands in the order, from place m on, and is above 0
+  abbrev pub inPlace : ℕ → ℕ → Bool
+  inPlace m n = leb m (indexOf n order) && ltb (indexOf n order) (length order) && ltb 0 n
+
+  -- so do the tests, one behind the other
   abbrev pub inOrder : ℕ → List Test → Bool
   inOrder m [] = true
-  inOrder m ((n when t) ∷ ts) = leb m (indexOf n order) && ltb 0 n && inOrder (suc (indexOf n order)) ts
+  inOrder m ((n when t) ∷ ts) = inPlace m n && inOrder (suc (indexOf n order)) ts
 
   -- what the first test says of the order
   module _ (m n : ℕ) (t : Bool) (ts : List Test) (h : inOrder m ((n when t) ∷ ts) ≡ true) where
+    head-in : (leb m (indexOf n order) && ltb (indexOf n order) (length order)) ≡ true
+    head-in = and-left _ (ltb 0 n) (and-left (inPlace m n) _ h)
+
     head-at : m ≤ indexOf n order
-    head-at = leb-true m _ (and-left (leb m (indexOf n order)) _ (and-left (leb m (indexOf n order) && ltb 0 n) _ h))
+    head-at = leb-true m _ (and-left (leb m (indexOf n order)) _ head-in)
+
+    head-listed : Listed order n
+    head-listed = ltb-true _ _ (and-right (leb m (indexOf n order)) _ head-in)
 
     head-above : 0 < n
-    head-above = ltb-true 0 n (and-right (leb m (indexOf n order)) _ (and-left (leb m (indexOf n order) && ltb 0 n) _ h))
+    head-above = ltb-true 0 n (and-right (leb m (indexOf n order) && ltb (indexOf n order) (length order)) _ (and-left (inPlace m n) _ h))
 
     rest-in : inOrder (suc (indexOf n order)) ts ≡ true
-    rest-in = and-right (leb m (indexOf n order) && ltb 0 n) _ h
+    rest-in = and-right (inPlace m n) _ h
 
   -- so does every number of the list that applies
   placed-from : (m : ℕ) (ts : List Test) (r : ℕ) → inOrder m ts ≡ true → Applies ts r → m ≤ indexOf r order
@@ -139,6 +149,11 @@ module _ (order : List ℕ) where
   placed-from m ((n when t) ∷ ts) r h (inl e) = rw (e .0) (head-at m n t ts h)
   placed-from m ((n when t) ∷ ts) r h (inr e) =
       omega (arith, head-at m n t ts h, placed-from (suc (indexOf n order)) ts r (rest-in m n t ts h) e)
+
+  stands-listed : (m : ℕ) (ts : List Test) (r : ℕ) → inOrder m ts ≡ true → Applies ts r → Listed order r
+  stands-listed m [] r h e = absurd e
+  stands-listed m ((n when t) ∷ ts) r h (inl e) = rw (e .0) (head-listed m n t ts h)
+  stands-listed m ((n when t) ∷ ts) r h (inr e) = stands-listed (suc (indexOf n order)) ts r (rest-in m n t ts h) e
 
   above-0 : (m : ℕ) (ts : List Test) (r : ℕ) → inOrder m ts ≡ true → Applies ts r → 0 < r
   above-0 m [] r h e = absurd e
@@ -210,6 +225,7 @@ module _ (order : List ℕ) where
       (λ e. let x = returned-0 (refuseFirst ts a) above e in same-none (Applies ts) applies means .0 (none-applies ts (accepted-pass ts a (x .0) (x .1) .0))),
       (λ h. let p = passes h in let e = ends p in ap status (all-pass ts a p ∙ e .1)),
     );
+    listed = λ r e. stands-listed 0 ts r stand (first r e .0);
   }
     where
       passes : None applies → AllPass ts
