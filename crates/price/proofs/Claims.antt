@@ -1,7 +1,7 @@
 -- What is claimed of pricing holds: its numbers by the tests that it shares with the row call, and its answer as that of planning, because both are made of the
 -- cheapest plan. Assumes nothing.
 use Rattle.model.proofs.Basics.{_≡_, refl, sym, ap, _∙_, _⊎_, inl, inr, ⊎-elim, _↔_, Bool, true, false, _||_, List, [], _∷_, _++_, some}
-use Rattle.model.proofs.Basics.{ℕ, _+_, _*_, _^_}
+use Rattle.model.proofs.Basics.{ℕ, _+_, _*_, _%_, _^_}
 use Rattle.model.proofs.Basics.{_≤_, _<_, arith, lit<, ltb, length, getD, take, ext-getD, ltb-true, lt-ltb, le-ltb, mul-le-mul-right}
 use Rattle.model.specs.{Answer.Answer, Plans.Plan, Sheet.Sheet, mapBelow, indexOf, full, planCost, cheapest, costToGo, refused, accepted, Test}
 use Rattle.model.specs.{_when_, refuseFirst, status}
@@ -19,14 +19,14 @@ use Rattle.model.proofs.Theory.Cheapest.{cheapest-solution}
 use Rattle.model.proofs.Theory.Solutions.{solution, solution-length}
 use Rattle.model.proofs.Bytes.PlanBytes.{length-is}
 use Rattle.model.proofs.Calls.Reading.{Reads, all-reads, reads-then, accepted-reads, sheet-within}
-use Rattle.model.proofs.Calls.Figures.{sheet-applies, reading-answers, planning-answers}
+use Rattle.model.proofs.Calls.{Figures.sheet-applies, Figures.reading-answers, Figures.planning-answers, Interface.left-alone}
 use Rattle.model.proofs.Calls.Planning.{has-plan, planned}
 use Rattle.rank.specs.Binomials.{mostLists}
 use Rattle.rank.proofs.Binomials.{two-layers-less, two-layers-same-1, two-layers-same-2}
 use Rattle.layers.specs.Layers.{layerCells, OpenCell, LayerFilled}
 use Rattle.price.specs.Pricing.{shortLayer, layerTests, unlessShort, Price, priceOf, priceIn, price, LayerAfter, LayersAfter}
 use Rattle.price.specs.Pricing.{layerOf, priceRow, RowPlace, rowPlace}
-use Rattle.price.specs.Pricing.{priceCost, priceStart}
+use Rattle.price.specs.Pricing.{priceCost, priceStart, rowLayer, rowCells}
 use Rattle.price.specs.Claims.{PricingApplies, pricingOrder, EitherShort, PricingHolds, PriceIsPlan, SameLeft, LentOrCost, rowTold, LayersLeft}
 use Rattle.price.specs.Claims.{FewerCells}
 use Rattle.price.proofs.Fits.{Fits, fits, fits-then, fits-0, refused-alike-22, priced, row-there}
@@ -116,6 +116,13 @@ module _ (b : List ℕ) (even odd : ℕ) where
       go (refused r) e = ap status e ∙ sym (ap status (refused-alike-22 b even odd _ _ refl e))
       go (accepted x) e = ap status e ∙ sym (ap status (priced b even odd (fits b even odd _ e .0) .price-is))
 
+  -- what it answers where it does not refuse
+  row-answers : status (rowPlace b even odd) ≡ 0 → rowPlace b even odd ≡ accepted (record { layer = decode b .tasks % 2; cells = decode b .points })
+  unfolding rowPlace price
+  row-answers z =
+      let x = answers .accepts .1 (answers .returns-0 .0 (sym row-returns ∙ z)) in
+      fits-then b even odd _ (fits b even odd _ (x .1) .0)
+
   pub pricing : PricingHolds b even odd
   pricing = record {
     answers = answers;
@@ -130,6 +137,9 @@ module _ (b : List ℕ) (even odd : ℕ) where
       (λ h. answers .returns-0 .1 (λ n a. ⊎-elim (λ l. omega (arith, h .1)) (λ l. omega (arith, h .2)) (left (h .0) n a .1))),
     );
     row-alike = row-returns;
+    row-told = λ layer cells z. rw (row-answers z) (refl, refl);
+    leaves = λ cost start n. (left-alone priceCost (price b even odd) cost n, left-alone priceStart (price b even odd) start n);
+    row-leaves = λ layer cells n. (left-alone rowLayer (rowPlace b even odd) layer n, left-alone rowCells (rowPlace b even odd) cells n);
   }
 
 -- ---- pricing is planning

@@ -1,6 +1,7 @@
--- What is claimed of pricing, in plain facts and as a caller from C sees it (02, Req 01). `pricing`, `price-is-plan`, `same-left`, `layers-left` and `fewer-cells`
--- prove it.
--- Assumes nothing.
+-- What is claimed of pricing, in plain facts and as a caller from C sees it, with the words of 02, Req 01, beside each claim. `pricing`, `price-is-plan`, `same-left`,
+-- `layers-left` and `fewer-cells` prove it. Assumes nothing.
+-- 02, Req 01: "Price without the plan. Dispatch quotes a round before taking it and needs only the least cost and its first start, in less memory from three tasks on
+-- (Note 4.1 of document 000)."
 use mathlib.Core.Path.{_≡_}
 use mathlib.Core.Logic.{_⊎_, _↔_}
 use mathlib.Core.Bool.{true, cond}
@@ -26,7 +27,8 @@ use Rattle.rank.specs.Ranks.{rank}
 use Rattle.layers.specs.Layers.{layerCells}
 use Rattle.price.specs.Pricing.{Price, price, LayersAfter, priceRow, rowPlace, priceCost, priceStart, rowLayer, rowCells}
 
--- ---- what the numbers of pricing mean
+-- ---- what the numbers of pricing mean: "With B the largest number of lists of one size, each layer needs B times P cells." "Refused: 22, either layer too short, tested
+-- after all the sheet's own numbers."
 
 -- r applies to the sheet b with layers of so many cells
 pub data PricingApplies (b : List ℕ) (even odd r : ℕ) : Type 0 where
@@ -54,8 +56,15 @@ pub record PricingHolds (b : List ℕ) (even odd : ℕ) : Type 0 where
       ↔ ((status (readSheet b) ≡ 0) × (mostLists (decode b .tasks) * decode b .points ≤ even) × (mostLists (decode b .tasks) * decode b .points ≤ odd))
   -- the row call returns what pricing with these layers returns
   pub row-alike : status (rowPlace b even odd) ≡ status (price b even odd)
+  -- and then leaves N's parity in *layer, 0 for the even layer and 1 for the odd one, and P in *cells
+  pub row-told : (layer cells : ℕ) → status (rowPlace b even odd) ≡ 0
+      → (placed rowLayer (rowPlace b even odd) layer ≡ decode b .tasks % 2) × (placed rowCells (rowPlace b even odd) cells ≡ decode b .points)
+  -- on refusal every place holds what it held before: *cost and *start of pricing, *layer and *cells of the row call
+  pub leaves : (cost start : ℕ) → (status (price b even odd) ≡ 0 → ⊥) → (placed priceCost (price b even odd) cost ≡ cost) × (placed priceStart (price b even odd) start ≡ start)
+  pub row-leaves : (layer cells : ℕ) → (status (rowPlace b even odd) ≡ 0 → ⊥)
+      → (placed rowLayer (rowPlace b even odd) layer ≡ layer) × (placed rowCells (rowPlace b even odd) cells ≡ cells)
 
--- ---- pricing is planning
+-- ---- pricing is planning: "Cost and start equal the planner's" ".. and no answer hangs on what they held before": the answer is made of the layers' lengths alone
 
 pub record PriceIsPlan (b : List ℕ) (even odd cells room : ℕ) : Type 0 where
   -- where planning answers with a plan, pricing answers, given room, with its cost and its start
@@ -75,7 +84,9 @@ SameLeft b cells buffer even odd = (cost start : ℕ) → status (plan b cells b
     × ((doors : List ℕ) × (length doors ≡ decode b .tasks) × (plan b cells buffer .bytes
     ≡ overwrite (planBytes (decode b .tasks) (placed priceStart (price b even odd) start) doors (placed priceCost (price b even odd) cost)) buffer))
 
--- ---- the layers and the row
+-- ---- the layers and the row: "Two layers of cells are lent: lists of even size go in one, odd in the other. A list's rank is the number of lists of its size with a smaller
+-- number. Ranks come from a table of 289 binomials, n and k from 0 to 16." "A second call, lent the sheet and the layers, hands back the part of whichever layer holds the
+-- full list's row, its first P cells, or an empty part where pricing refuses; after pricing they show the cost to finish the whole round from each point."
 
 -- cell i of the layer of a parity held x and holds y: it is as lent, or the cost to go from point i % P of a list that the pairs allow, of rank i / P and of that parity
 abbrev pub LentOrCost : Sheet → ℕ → ℕ → ℕ → ℕ → Type 0
@@ -92,7 +103,7 @@ pub record LayersLeft (b even odd even' odd' : List ℕ) : Type 0 where
   pub left-alone : (status (price b (length even) (length odd)) ≡ 0 → ⊥) → (even' ≡ even) × (odd' ≡ odd) × (priceRow b even' odd' ≡ [])
   -- their lengths stay in any case
   pub as-many : (length even' ≡ length even) × (length odd' ≡ length odd)
-  -- otherwise the cells from B times P on stay
+  -- ".. cells past B times P stay"
   pub beyond : status (price b (length even) (length odd)) ≡ 0 → (i : ℕ) → mostLists (decode b .tasks) * decode b .points ≤ i
       → (getD even' i 0 ≡ getD even i 0) × (getD odd' i 0 ≡ getD odd i 0)
   -- the row shows the costs to go of the whole round, as the row call hands it back and as it tells it in C
@@ -100,11 +111,11 @@ pub record LayersLeft (b even odd even' odd' : List ℕ) : Type 0 where
       → priceRow b even' odd' ≡ mapBelow (decode b .points) (costToGo (decode b) (full (decode b .tasks)))
   pub told-shows : (layer cells : ℕ) → status (price b (length even) (length odd)) ≡ 0
       → rowTold b even' odd' layer cells ≡ mapBelow (decode b .points) (costToGo (decode b) (full (decode b .tasks)))
-  -- and the others are open: of them this much holds
+  -- "the layers' other cells are left open": of them this much holds
   pub others : status (price b (length even) (length odd)) ≡ 0 → (i : ℕ) → i < mostLists (decode b .tasks) * decode b .points
       → LentOrCost (decode b) 0 i (getD even i 0) (getD even' i 0) × LentOrCost (decode b) 1 i (getD odd i 0) (getD odd' i 0)
 
--- ---- fewer cells
+-- ---- fewer cells: "in less memory from three tasks on"
 
 pub record FewerCells (S : Sheet) : Type 0 where
   -- two layers need fewer cells than planning from three tasks on, and as many for one and two

@@ -8,8 +8,8 @@ ghost use Rattle.rank.specs.Ranks.{maxRanked, Tabled, rankOf, mostListsO
 
 pub const MAX_TASKS: usize = 16;
 
-// The number of lists of so many tasks.
-const LISTS: u32 = 65536;
+// The number of lists of so many tasks: a constant here, where `tasklist::lists` has it by a call.
+const LISTS: u32 = 1 << MAX_TASKS;
 
 const WIDTH: usize = 17;
 

@@ -40,7 +40,7 @@ pub fn watched_in(watched: u32, k: u32) -> u32
     u32::count_ones(k & watched)
 }
 
-// The number of lists of n tasks, 2 to the power n; 0 from 32 tasks on, where a mask has no room for it. The code's only source of that power.
+// The number of lists of n tasks, 2 to the power n; 0 from 32 tasks on, where a mask has no room for it. The code's only source of that power, but for a constant of `rank`.
 pub fn lists(n: u16) -> u32
     ensures { λ r. ⌜ r ≡ listsOf n ⌝ }
 {
