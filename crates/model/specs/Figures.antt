@@ -1,7 +1,7 @@
 -- Document 01's own figures: where each number of a sheet stands, what each number that a call can answer with means, in plain facts, in which order they are
--- tested, what a route costs, and what is printed. No figure here comes from the table of SheetLayout.antt, no order from a list of tests, and no cost from Cost.antt.
--- `figures` proves `FiguresHold`, which is all of it (01, Layout of a task sheet, Cost of a round, Layout of a plan, Numbers a call can answer with, and Sheet A and its
--- neighbours; 16 and its place as 02, Req 03, has them). Assumes nothing.
+-- tested, what a route costs, and what is printed. No figure here comes from the table of SheetLayout.antt, no order from a list of tests, and no part of a sum from
+-- Cost.antt or TaskList.antt. `figures` proves `FiguresHold`, which is all of it (01, Layout of a task sheet, Cost of a round, Layout of a plan, Numbers a call can answer
+-- with, and Sheet A and its neighbours; 16 and its place as 02, Req 03, has them). Assumes nothing.
 use mathlib.Core.Path.{_≡_}
 use mathlib.Core.Logic.{_↔_}
 use mathlib.Core.Bool.{true, cond, _&&_}

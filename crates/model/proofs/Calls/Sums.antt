@@ -17,13 +17,13 @@ use Rattle.model.proofs.Calls.{Reading.Reads, Reading.reads-then, Readi
 use Rattle.model.proofs.Calls.Planning.{accepted-planned, accepted-plan, planned, plannable, cell-shown}
 
 -- a closed list is one that the pairs allow, and from 1 on an essential one
-closed-essential : (S : Sheet) (K : ℕ) → (K ≡ 0 → ⊥) → Closed S K → essential S K ≡ true
+closed-essential : (S : Sheet) (K : ℕ) → 1 ≤ K → Closed S K → essential S K ≡ true
 unfolding bit
-closed-essential S K n c = essential-means S K .1 (n, λ i l m. eq-eqb _ 1 (c i l (eqb-true _ 1 m)))
+closed-essential S K g c = essential-means S K .1 ((λ z. omega arith), λ i l m. eq-eqb _ 1 (c i l (eqb-true _ 1 m)))
 
 closed-allowed : (S : Sheet) (K : ℕ) → Closed S K → pairsAllow S K ≡ true
 unfolding pairsAllow
-closed-allowed S K c = by-test (eqb K 0) (λ w. rw w) (λ w. rw (w, closed-essential S K (eqb-false K 0 w) c))
+closed-allowed S K c = by-test (eqb K 0) (λ w. rw w) (λ w. rw (w, closed-essential S K (omega (arith, eqb-false K 0 w)) c))
 
 -- what 30 to 33 do not refuse has passed their tests
 passed : (t u v w x : Bool) (c : ℕ)
@@ -131,7 +131,7 @@ module _ (b : List ℕ) (R : Reads b) where
   met : (K : ℕ) → 1 ≤ K → K < 2 ^ S .tasks → Closed S K
       → (s : ℕ) × (ds : List ℕ) × (i : ℕ) × (isSolution S s ds ≡ true) × (i < S .tasks) × (K ≡ sumFrom i (S .tasks) (λ j. 2 ^ S .task (doorOf ds j)))
   met K g l c =
-      let w = essential-open S (plannable b R) (counts-read b R .one-start) K l (closed-essential S K (λ z. omega arith) c) in
+      let w = essential-open S (plannable b R) (counts-read b R .one-start) K l (closed-essential S K g c) in
       (0, w .0, w .1, w .2, w .3, sym (w .4) ∙ open-number 0 (w .0) (w .2) (w .1))
 
 pub sums-hold : (b : List ℕ) → status (readSheet b) ≡ 0 → SumsHold b
