@@ -2,17 +2,16 @@
 -- cheapest plan. Assumes nothing.
 use Rattle.model.proofs.Basics.{_≡_, refl, sym, ap, _∙_, _⊎_, inl, inr, ⊎-elim, _↔_, Bool, true, false, _||_, List, [], _∷_, _++_, some}
 use Rattle.model.proofs.Basics.{ℕ, _+_, _*_, _%_, _^_}
-use Rattle.model.proofs.Basics.{_≤_, _<_, arith, lit<, ltb, length, getD, take, ext-getD, ltb-true, lt-ltb, le-ltb, mul-le-mul-right}
-use Rattle.model.specs.{Answer.Answer, Plans.Plan, Sheet.Sheet, mapBelow, indexOf, full, planCost, cheapest, costToGo, refused, accepted, Test}
+use Rattle.model.proofs.Basics.{_≤_, _<_, arith, lit<, ltb, length, ext-getD, ltb-true, lt-ltb, le-ltb, mul-le-mul-right}
+use Rattle.model.specs.{Answer.Answer, Plans.Plan, Sheet.Sheet, mapBelow, indexOf, full, cheapest, costToGo, refused, accepted, Test}
 use Rattle.model.specs.{_when_, refuseFirst, status}
 use Rattle.model.specs.{placed, placedNumber, overwrite, decode, decodeBy, entries, lineAt, readSheet, sheetTests, unlessFault}
 use Rattle.model.specs.{planLength, planBytes, shortRoom}
 use Rattle.model.specs.{cellsNeeded, fewCells, roomTests, orNoOrder, planFor, carriedOut, plan}
 use Rattle.model.specs.Figures.{SheetApplies, Before, AnswersBy}
-use Rattle.model.specs.Demands.{SheetNumber}
 use Rattle.model.proofs.Tools.Tests.{or-true, not-less}
 use Rattle.model.proofs.Tools.Folds.{length-mapBelow, mapBelow-at}
-use Rattle.model.proofs.Tools.Refusing.{refused≢accepted, refused-number, accepted-value, returned, returned-refusal, AllPass, Applies}
+use Rattle.model.proofs.Tools.Refusing.{refused≢accepted, refused-number, accepted-value, returned-refusal, AllPass, Applies}
 use Rattle.model.proofs.Tools.Refusing.{accepted-pass, refused-applies}
 use Rattle.model.proofs.Tools.Refusing.{refuse-append, pass-append, applies-append, applies-before, answers-by}
 use Rattle.model.proofs.Theory.Cheapest.{cheapest-solution}
@@ -25,11 +24,11 @@ use Rattle.rank.specs.Binomials.{mostLists}
 use Rattle.rank.proofs.Binomials.{two-layers-less, two-layers-same-1, two-layers-same-2}
 use Rattle.layers.specs.Layers.{layerCells, OpenCell, LayerFilled}
 use Rattle.price.specs.Pricing.{shortLayer, layerTests, unlessShort, Price, priceOf, priceIn, price, LayerAfter, LayersAfter}
-use Rattle.price.specs.Pricing.{layerOf, priceRow, RowPlace, rowPlace}
+use Rattle.price.specs.Pricing.{priceRow, RowPlace, rowPlace}
 use Rattle.price.specs.Pricing.{priceCost, priceStart, rowLayer, rowCells}
 use Rattle.price.specs.Claims.{PricingApplies, pricingOrder, EitherShort, PricingHolds, PriceIsPlan, SameLeft, LentOrCost, rowTold, LayersLeft}
 use Rattle.price.specs.Claims.{FewerCells}
-use Rattle.price.proofs.Fits.{Fits, fits, fits-then, fits-0, refused-alike-22, priced, row-there}
+use Rattle.price.proofs.Fits.{Fits, fits, fits-then, refused-alike-22, priced, row-there}
 use Rattle.price.proofs.Quoting.{row-shows}
 
 -- ---- the numbers

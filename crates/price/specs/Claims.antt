@@ -25,7 +25,7 @@ use Rattle.model.specs.Figures.{tasksStated, pointsStated, SheetApplies, sheetO
 use Rattle.rank.specs.Binomials.{mostLists}
 use Rattle.rank.specs.Ranks.{rank}
 use Rattle.layers.specs.Layers.{layerCells}
-use Rattle.price.specs.Pricing.{Price, price, LayersAfter, priceRow, rowPlace, priceCost, priceStart, rowLayer, rowCells}
+use Rattle.price.specs.Pricing.{Price, price, priceRow, rowPlace, priceCost, priceStart, rowLayer, rowCells}
 
 -- ---- what the numbers of pricing mean: "With B the largest number of lists of one size, each layer needs B times P cells." "Refused: 22, either layer too short, tested
 -- after all the sheet's own numbers."

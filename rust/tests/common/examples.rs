@@ -76,6 +76,38 @@ pub fn sheet_a_with_rule(watched: u16, least: u16, charge: u32) -> Sheet {
     }
 }
 
+/// Three tasks with a door each and four access rules of least count 2: two points, three starts, no pairs.
+pub fn four_rules() -> Sheet {
+    let door = |task, arrival, departure, work| Door {
+        task,
+        arrival,
+        departure,
+        work,
+    };
+    let rule = |door, watched, charge| Rule {
+        door,
+        watched,
+        least: 2,
+        charge,
+    };
+    Sheet {
+        kind: 1,
+        end_load: 10,
+        tasks: vec![4, -2, 1],
+        doors: vec![door(0, 1, 1, 1), door(1, 0, 1, 2), door(2, 1, 0, 4)],
+        starts: vec![0, 0, 1],
+        pairs: vec![],
+        rules: vec![
+            rule(0, 6, 100),
+            rule(0, 5, 7),
+            rule(1, 5, 30),
+            rule(1, 6, 11),
+        ],
+        points: vec![5, 9],
+        distances: vec![0, 2, 3, 0],
+    }
+}
+
 /// Sheet A with as many tasks as asked, at least two; each new one has a door and changes no load.
 pub fn sheet_a_with_tasks(tasks: usize) -> Sheet {
     let mut sheet = sheet_a();

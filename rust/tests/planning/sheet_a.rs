@@ -76,6 +76,23 @@ fn a_with_other_end_loads() {
     refused(&sheet_a_with_end_load(2), 16);
     // The van is empty while task 1 alone is open, so the second leg costs nothing.
     plans(&sheet_a_with_end_load(3), [0, 1], 2 * 5 + 4 + 6 + 30);
+    // The first load is 65,537, which has 17 bits.
+    plans(&sheet_a_with_end_load(65_535), [0, 1], 393_242);
+}
+
+/// Rules that ask for two open tasks each: the cells as an enumeration gives them, and the plan from the last start.
+#[test]
+fn four_rules_planned() {
+    let (mut cells, mut plan, mut cost) = ([CELL; 17], [BYTE; 39], CELL);
+    let number = interface::plan(&four_rules().encode(), &mut cells, &mut plan, &mut cost);
+    assert_eq!((number, cost), (0, 16));
+    let due_cells = [5, 9, 38, 10, 11, 35, 12, 36, 31, 9, 47, 17, 22, 15, 42, 16];
+    assert_eq!((&cells[..16], cells[16]), (&due_cells[..], CELL));
+    let due_plan = Plan::of(2, &[2, 1, 0], 16);
+    assert_eq!((&plan[..38], plan[38]), (&due_plan.encode()[..], BYTE));
+    let (due, _) = due(&four_rules()).expect("it reads");
+    assert_eq!(due.plan, due_plan);
+    assert_eq!(due.cells, due_cells.map(Some));
 }
 
 /// The number of a sheet comes before those of the room.

@@ -50,6 +50,18 @@ fn a_with_pairs() {
 }
 
 #[test]
+fn four_rules_printed() {
+    let lines = "\
+cost 16
+start 2
+door 2 task 2 open 7
+door 1 task 1 open 3
+door 0 task 0 open 1
+";
+    prints_for(&four_rules(), lines);
+}
+
+#[test]
 fn a_with_a_rule_on_door_0() {
     prints_for(&sheet_a_with_rule(2, 1, 50), DOORS_1_0);
     prints_for(&sheet_a_with_rule(2, 1, 35), DOORS_1_0);

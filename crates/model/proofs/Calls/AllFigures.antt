@@ -1,5 +1,5 @@
 -- All of document 01's figures: `figures`, from the theorems on each call, on sums and on lines. Assumes nothing.
-use Rattle.model.proofs.Basics.{_≡_, sym, ap, _∙_, ℕ, suc, _-_, _*_, _≤_, _<_, arith, pos, _+ℤ_, lt-ltb, le-ltb}
+use Rattle.model.proofs.Basics.{_≡_, ap, _∙_, ℕ, suc, _-_, _*_, _≤_, _<_, arith, pos, _+ℤ_, lt-ltb, le-ltb}
 use Rattle.model.specs.{signed, Figures.FiguresHold}
 use Rattle.model.proofs.{Bytes.Numbers.number-sum, Theory.Loads.sub-pos, Theory.RouteSums.costs-sum, Calls.Judged.validating-answers, Calls.Sums.sums-hold}
 use Rattle.model.proofs.Calls.{Figures.stands-at, Figures.lengths-between, Figures.reading-answers, Figures.planning-answers, Printing.cut-input, Lines.printing-holds}

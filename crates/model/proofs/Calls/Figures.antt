@@ -6,7 +6,7 @@ use Rattle.model.proofs.Basics.{not-false}
 use Rattle.model.specs.{Answer.Answer, isBetween, anyBelow, bit, essential, load, lightList, kind1, fieldWidth, bytesBefore, entryBytes, lineAt}
 use Rattle.model.specs.{lineBody, lineOffset, entries, bodyAt, fieldAt, decodeBy, layoutOf, decode, tooShort, wrongKind, wrongEntries}
 use Rattle.model.specs.{someWrongEntries, wrongLine, wrongLength, wrongPlaces, outOfRange, lacksDoor, someLacksDoor, tooLight}
-use Rattle.model.specs.{sheetTests, unlessFault, readSheet, InRange, numberAt, signed, refused, accepted, Test, Plan, planCost, cheapest}
+use Rattle.model.specs.{sheetTests, unlessFault, readSheet, InRange, numberAt, signed, refused, accepted, Plan, planCost, cheapest}
 use Rattle.model.specs.{cellsNeeded, fewCells, roomTests, orNoOrder, planFor, carriedOut, plan, shortRoom}
 use Rattle.model.specs.Figures.{tasksStated, pointsStated, StandsAt, Between, RightEntries, RightPlaces, RightRanges, SheetApplies}
 use Rattle.model.specs.Figures.{is10, is11, is12, is13, is14, is15, is16, is17, Closed, BelowZero, PlanningApplies, sheetOrder, planningOrder, AnswersBy}

@@ -1,8 +1,8 @@
 -- What is printed, line by line: the cost, the start, and a step for each door of the plan that planning leaves, whose open list is a sum of powers of two; and what
 -- printing leaves in buffer and cells. Assumes nothing.
-use Rattle.model.proofs.Basics.{_≡_, refl, sym, ap, ap₂, _∙_, List, [], _∷_, _++_, append-assoc, map, ℕ, zero, suc, _+_, _*_, _^_, _≤_, _<_, arith, zero-add}
-use Rattle.model.proofs.Basics.{length, getD, take, drop, leb, le-leb, lt-leb}
-use Rattle.model.specs.{Sheet.Sheet, Answer.Answer, flatMapBelow, mapBelow, maskOf, full, Plan, isSolution, planCost, accepted, refused, decode, decodeBy, entries, lineAt}
+use Rattle.model.proofs.Basics.{_≡_, refl, sym, ap, ap₂, _∙_, List, [], _∷_, _++_, append-assoc, map, ℕ, suc, _+_, _≤_, _<_, arith, zero-add}
+use Rattle.model.proofs.Basics.{length, getD, drop, le-leb, lt-leb}
+use Rattle.model.specs.{Sheet.Sheet, Answer.Answer, flatMapBelow, mapBelow, maskOf, full, Plan, planCost, accepted, refused, decode, decodeBy, entries, lineAt}
 use Rattle.model.specs.{maxPlanDoors, planLength, plan, planFor, carriedOut, ascii, decimal, lineEnd, refusalLine, stepLine, stepLines, planLines, printedWith, print, overwrite, overwriteAt, writtenAt}
 use Rattle.model.specs.Figures.{tasksStated, startStated, doorStated, OwnTasks, lineText, PrintingHolds}
 use Rattle.model.proofs.Tools.Folds.{flat-cong, flat-first, length-mapBelow, mapBelow-at}

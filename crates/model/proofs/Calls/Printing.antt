@@ -3,11 +3,11 @@
 use Rattle.model.proofs.Basics.{_≡_, refl, sym, ap, ap₂, _∙_, Bool, true, false, not, List, some, ℕ, zero, suc, _+_, _*_, _≤_, _<_}
 use Rattle.model.proofs.Basics.{arith, eqb, ltb, lit<, length, take, length-take-le, getD-take, take-all, ne-eqb, ltb-true}
 use Rattle.model.proofs.Basics.{ltb-false, le-ltb}
-use Rattle.model.specs.{Answer.Answer, Plan, planCost, cheapest, refused, accepted, pointsBody, bodies, lineAt, entries, bodyAt}
-use Rattle.model.specs.{layoutOf, decode, maxPlanDoors, planLength, planBytes, numberAt, overwrite, planFor, carriedOut, plan}
+use Rattle.model.specs.{Plan, planCost, cheapest, refused, accepted, pointsBody, bodies, lineAt, entries, bodyAt}
+use Rattle.model.specs.{layoutOf, decode, maxPlanDoors, planLength, planBytes, numberAt, overwrite, planFor, plan}
 use Rattle.model.specs.{refusalLine, planLines, answerLines, printedWith, printed, anyBelow, tooShort, wrongKind, wrongEntries}
 use Rattle.model.specs.{someWrongEntries, wrongLine, wrongLength, wrongPlaces, sheetTests, unlessFault}
-use Rattle.model.proofs.Tools.{Refusing.refused≢accepted, Refusing.accepted-value, Tests.or-true, Tests.any-cong, Tests.by-test}
+use Rattle.model.proofs.Tools.{Tests.or-true, Tests.any-cong, Tests.by-test}
 use Rattle.model.proofs.Bytes.Entries.{entries-within}
 use Rattle.model.proofs.Calls.{Reading.Reads, Planning.accepted-planned, Planning.planned, Planning.accepted-plan, Planning.refused-planned, Passing.end-between}
 

@@ -1,18 +1,18 @@
 -- Of a sheet that reads: solutions, completions, plans that are judged, the plan and the cells that planning leaves all cost what the plain sums say, as no leg has a load
 -- below zero; and every essential list is met along some solution. Assumes nothing.
-use Rattle.model.proofs.Basics.{_≡_, refl, sym, ap, _∙_, subst, _↔_, Bool, true, false, List, [], _∷_, map, some, ℕ, _+_, _*_, _^_, _≤_, _<_, arith}
-use Rattle.model.proofs.Basics.{eqb, lit≤, length, getD, drop, lt-of-lt-of-le, digits-lt, eqb-true, eqb-false, eq-eqb, ne-eqb, not-true}
-use Rattle.model.specs.{Sheet.Sheet, Answer.Answer, mapBelow, bit, full, maskOf, isOrder, keepsPairsWithin, isOrderWithin, essential, pairsAllow, cost}
+use Rattle.model.proofs.Basics.{_≡_, refl, sym, ap, _∙_, subst, _↔_, Bool, true, false, List, [], _∷_, map, ℕ, _+_, _*_, _^_, _≤_, _<_, arith}
+use Rattle.model.proofs.Basics.{eqb, lit≤, length, getD, drop, lt-of-lt-of-le, digits-lt, eqb-true, eqb-false, eq-eqb, ne-eqb}
+use Rattle.model.specs.{Sheet.Sheet, mapBelow, bit, full, maskOf, isOrder, keepsPairsWithin, isOrderWithin, essential, pairsAllow, cost}
 use Rattle.model.specs.{Plan, inSheet, isSolution, roundCost, planCost, isCompletion, decode, decodeBy, layoutOf, entries, lineAt, readSheet, validate, plan, carriedOut, status}
 use Rattle.model.specs.{accepted, refused, refuseIf, refuseFirst, _when_, illFormed, startIn, doorIn, doorsIn, costIn, planStartAt, planDoorsAt, planCostAt}
-use Rattle.model.specs.{notInSheet, doneTwice, breaksPair, wrongCost, routeTests, planTests, InRange}
+use Rattle.model.specs.{notInSheet, doneTwice, breaksPair, wrongCost, routeTests, planTests}
 use Rattle.model.specs.Demands.{LegsHold}
 use Rattle.model.specs.Figures.{Between, Closed, tasksStated, startStated, doorStated, costStated, sumFrom, CostsSum, doorOf, SumsHold}
 use Rattle.model.proofs.Tools.{Tests.and-left, Tests.and-right, Tests.by-test, Folds.length-mapBelow, Arrays.map-elements, Refusing.refused≢accepted}
 use Rattle.model.proofs.Theory.RouteSums.{order-own, open-sum, costs-by-sum}
 use Rattle.model.proofs.Theory.{Solutions.solution, Solutions.solution-length, Solutions.solution-fits, Meanings.essential-means, EssentialOpen.essential-open}
 use Rattle.model.proofs.Theory.{Cheapest.cheapest-solution, Cheapest.to-go-attained, Driving.some-completion}
-use Rattle.model.proofs.{Bytes.Ranges.in-range, Bytes.PlanBytes.length-doors, Calls.PlanFigures.stated-start, Calls.PlanFigures.stated-doors}
+use Rattle.model.proofs.{Bytes.Ranges.in-range, Calls.PlanFigures.stated-start, Calls.PlanFigures.stated-doors}
 use Rattle.model.proofs.Calls.{Reading.Reads, Reading.reads-then, Reading.counts-read, Demands.legs-hold, Room.gets-0, Validating.judged-solution, Interface.reads-sheet}
 use Rattle.model.proofs.Calls.Planning.{accepted-planned, accepted-plan, planned, plannable, cell-shown}
 

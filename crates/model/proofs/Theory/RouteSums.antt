@@ -1,10 +1,10 @@
 -- What a route costs, in plain sums over its places. By taking the first leg off: its load and the watched tasks that are open are sums over the members of the open list,
 -- and so over the places of the doors to come. Assumes nothing.
-use Rattle.model.proofs.Basics.{_≡_, refl, sym, ap, ap₂, _∙_, true, false, cond, _&&_, List, _∷_, map, ℕ, zero, suc, _+_, _-_, _*_, _/_, _%_, _^_, _≤_, _<_}
+use Rattle.model.proofs.Basics.{_≡_, refl, sym, ap, ap₂, _∙_, true, cond, _&&_, List, _∷_, map, ℕ, zero, suc, _+_, _-_, _*_, _/_, _%_, _^_, _≤_, _<_}
 use Rattle.model.proofs.Basics.{zero-add, suc-add, arith, eqb, ltb, leb, T, drop, ltb-true, natAbs, nonNeg}
 use Rattle.model.specs.{Sheet.Sheet, sumBelow, countBelow, mapBelow, bit, member, watchedIn, maskOf, isOrder, load, ruleCharge, charges, stepCost, cost, up, down}
 use native.Mathlib.Nat.{sub-zero, suc-sub-suc}
-use Rattle.model.specs.Figures.{sumFrom, pointBefore, LoadsAre, watchedFrom, chargeOn, legSum, routeSum, OwnTasks, CostsSum}
+use Rattle.model.specs.Figures.{sumFrom, pointBefore, LoadsAre, chargeOn, legSum, routeSum, OwnTasks, CostsSum}
 use Rattle.model.proofs.Tools.{Tests.by-test, Folds.sum-cong, Folds.sum-first, Folds.map-first, Folds.map-mapBelow, Arrays.drop-mapBelow}
 use Rattle.model.proofs.Tools.{Elements.in-at, Positions.StandsIn, Positions.stands-twice, Positions.image-stands}
 use Rattle.model.proofs.TaskLists.{Masks.by-bit, Counting.order-in, Counting.order-once, Places.maskBelow, Places.mask-sum, Places.members-sum}
