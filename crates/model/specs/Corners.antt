@@ -1,5 +1,6 @@
--- Corners of the definitions, by a computed check: a round with four access rules of least count 2, a load of more than 16 bits, 14 at each limit, more doors lent than a
--- plan has room for, a cost of eight bytes, and the words that are printed, as bytes (01, Cost of a round, Numbers a call can answer with, and Layout of a plan).
+-- Corners of the definitions, by a computed check: a round with four access rules of least count 2, a load of more than 16 bits, 14 at each limit, more doors lent, and
+-- more handed, than a plan has room for, a cost of eight bytes, and the words that are printed, as bytes (01, Cost of a round, Working, Numbers a call can answer with, and
+-- Layout of a plan).
 -- The figures of the round are those of an enumeration made apart from these definitions. Assumes nothing.
 use mathlib.Core.Bool.{Bool, _&&_}
 use mathlib.Core.List.{List, [], _∷_, _++_}
@@ -12,10 +13,11 @@ use Rattle.model.specs.Answer.{accepted}
 use Rattle.model.specs.SheetLayout.{decode}
 use Rattle.model.specs.Faults.{readSheet}
 use Rattle.model.specs.PlanLayout.{writePlan, readPlan}
+use Rattle.model.specs.PlanInHand.{noDoors, withDoors}
 use Rattle.model.specs.Validating.{validate}
 use Rattle.model.specs.Planning.{plan}
 use Rattle.model.specs.Printing.{ascii, print, printed}
-use Rattle.model.specs.Examples.{sheetA, headOf, likeA, pairBytes, ruleBytes, ended, byteNoise, planA, sameAnswer, readingRefuses, readingAnswers, planAnswers}
+use Rattle.model.specs.Examples.{sheetA, headOf, likeA, pairBytes, ruleBytes, ended, byteNoise, planA, sameAnswer, readingRefuses, readingAnswers, planAnswers, holds}
 
 -- ---- a round with four rules
 
@@ -90,6 +92,8 @@ checkCorners =
     && readingRefuses (readSheet watches258) 14
     -- the plan of A read with fourteen doors lent
     && planAnswers (readPlan 2 14 planA) 0 (0 ∷ 1 ∷ 0 ∷ 0 ∷ 0 ∷ 0 ∷ 0 ∷ 0 ∷ 0 ∷ 0 ∷ 0 ∷ 0 ∷ 0 ∷ 0 ∷ []) 92
+    -- a plan in hand of cost 7 that is handed fourteen doors
+    && holds (withDoors (noDoors 7) (take 14 byteNoise)) (take 12 byteNoise) 12 7
     -- a cost of eight bytes written and read
     && sameList (writePlan 2 0 (0 ∷ 1 ∷ []) wideCost (take 36 byteNoise) .bytes) widePlan
     && planAnswers (readPlan 2 2 widePlan) 0 (0 ∷ 1 ∷ []) wideCost

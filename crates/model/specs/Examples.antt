@@ -200,7 +200,7 @@ planAnswers (refused m) start doors cost = false
 planAnswers (accepted x) start doors cost = eqb (x .start) start && sameList (x .doors) doors && eqb (x .cost) cost
 
 -- a plan in hand has these doors in its array, so many of them its own, and this cost
-abbrev holds : PlanInHand → List ℕ → ℕ → ℕ → Bool
+abbrev pub holds : PlanInHand → List ℕ → ℕ → ℕ → Bool
 holds x doors count cost = sameList (x .doors) doors && eqb (x .count) count && eqb (x .cost) cost
 
 -- planning answers the cost, and leaves these cells and these plan bytes in front of the noise

@@ -1,6 +1,6 @@
 -- The plan in hand after doors were added one by one: their count, the cost, and the array that holds them. Assumes nothing.
 use Rattle.model.proofs.Basics.{_≡_, refl, sym, ap, _∙_, List, [], _∷_, _++_, ℕ, zero, suc, _+_, _≤_, _<_, add-one, arith, length}
-use Rattle.model.proofs.Basics.{getD, take, lt-ltb}
+use Rattle.model.proofs.Basics.{getD, take, lt-ltb, le-ltb}
 use Rattle.model.specs.{mapBelow, maxPlanDoors, doorsIn, doorIn, costIn, doorArray, noDoors, withDoor, withDoors, inHand}
 use Rattle.model.specs.PlanInHand.{PlanInHand}
 use Rattle.model.proofs.Tools.Arrays.{map-elements, array-next}
@@ -28,6 +28,11 @@ planOf cost n f = record { doors = doorArray maxPlanDoors n f; count = n; cost =
 added : (cost n : ℕ) (f : ℕ → ℕ) → n < maxPlanDoors → withDoor (planOf cost n f) (f n) ≡ planOf cost (suc n) f
 unfolding withDoor
 added cost n f h = rw (lt-ltb n maxPlanDoors h, array-next maxPlanDoors n f h)
+
+-- and which then stays as it is, whichever door it is handed
+pub full-stays : (x : PlanInHand) (d : ℕ) → maxPlanDoors ≤ x .count → withDoor x d ≡ x
+unfolding withDoor
+full-stays x d h = rw (le-ltb (x .count) maxPlanDoors h)
 
 filled : (cost n : ℕ) (f : ℕ → ℕ) → n ≤ maxPlanDoors → withDoors (noDoors cost) (mapBelow n f) ≡ planOf cost n f
 unfolding noDoors doorArray mapBelow

@@ -10,7 +10,7 @@ use Rattle.model.proofs.Tools.{Elements.in-at, Positions.StandsIn, Posi
 use Rattle.model.proofs.TaskLists.{Masks.by-bit, Counting.order-in, Counting.order-once, Places.maskBelow, Places.mask-sum, Places.members-sum}
 use Rattle.model.proofs.Theory.Loads.{ups, downs, load-number, load-held}
 
--- ---- the list that is open at the first leg, of the tasks of the doors d 0 .. d n
+-- ---- the list that is open at the first leg: that of the tasks of d 0 .. d (n - 1)
 
 module _ (S : Sheet) (n : ℕ) (d : ℕ → ℕ) (own : OwnTasks S n d) where
   abbrev K : ℕ
@@ -29,7 +29,8 @@ module _ (S : Sheet) (n : ℕ) (d : ℕ → ℕ) (own : OwnTasks S n d) where
   -- where its load is not below zero, that is the number which E and the changes of its tasks come to
   open-number : taken ≤ S .endLoad + added → natAbs (load S K) + taken ≡ S .endLoad + added
   unfolding ups downs
-  open-number h = rw (← over (λ j. up (S .change j)), ← over (λ j. down (S .change j))) (load-number S K (rw (over (λ j. up (S .change j)), over (λ j. down (S .change j))) h))
+  open-number h = rw (← over (λ j. up (S .change j)), ← over (λ j. down (S .change j)))
+      (load-number S K (rw (over (λ j. up (S .change j)), over (λ j. down (S .change j))) h))
 
   open-held : T (nonNeg (load S K)) → taken ≤ S .endLoad + added
   unfolding ups downs
@@ -44,7 +45,8 @@ module _ (S : Sheet) (n : ℕ) (d : ℕ → ℕ) (own : OwnTasks S n d) where
       both j = by-bit W j (λ w. rw w (omega arith)) (λ w. by-bit K j (λ v. rw (w, v)) (λ v. rw (w, v)))
 
   -- so the rules on a door cost what they cost by the places
-  open-charges : (x : ℕ) → charges S K x ≡ sumBelow (S .rules) (λ r. cond (eqb (S .ruleDoor r) x && leb (S .leastCount r) (sumBelow n (λ i. bit (S .watched r) (S .task (d i))))) (S .charge r) 0)
+  open-charges : (x : ℕ) → charges S K x
+      ≡ sumBelow (S .rules) (λ r. cond (eqb (S .ruleDoor r) x && leb (S .leastCount r) (sumBelow n (λ i. bit (S .watched r) (S .task (d i))))) (S .charge r) 0)
   unfolding charges ruleCharge
   open-charges x = sum-cong (S .rules) _ _ (λ r l. rw (open-watched (S .watched r)) (by-test (eqb (S .ruleDoor r) x) (λ w. rw w) (λ w. rw w)))
 
