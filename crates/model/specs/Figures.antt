@@ -8,11 +8,10 @@ use mathlib.Core.Bool.{true, cond, _&&_}
 use mathlib.Core.List.{List, [], _∷_, _++_}
 use Prim.Native.Nat.{ℕ, zero, suc, _+_, _-_, _*_, _/_, _%_, _^_, _≤_, _<_}
 use lib.Dec.{eqb, leb}
-use lib.IntN.{pos, _+ℤ_}
+use lib.IntN.{ℤ, pos, _+ℤ_}
 use lib.ListN.{length, getD, take, drop}
-use Rattle.model.specs.Folds.{sumBelow, flatMapBelow, mapBelow, indexOf}
+use Rattle.model.specs.Folds.{sumBelow, flatMapBelow, mapBelow, countOf, indexOf}
 use Rattle.model.specs.Sheet.{Sheet}
-use Rattle.model.specs.Orders.{isAdmissible}
 use Rattle.model.specs.Cost.{cost}
 use Rattle.model.specs.Plans.{isSolution, roundCost, isCompletion}
 use Rattle.model.specs.Bytes.{numberAt, signed}
@@ -135,6 +134,12 @@ pub record RightRanges (S : Sheet) : Type 0 where
   pub watched : (i : ℕ) → i < S .rules → S .watched i < 2 ^ S .tasks
   pub leastCount : (i : ℕ) → i < S .rules → Between 1 12 (S .leastCount i)
 
+-- ts is an order of all tasks that keeps every pair: each task stands in it once and nothing else does, and of each pair the sender stands before the receiver
+pub record KeepsPairs (S : Sheet) (ts : List ℕ) : Type 0 where
+  pub once : (t : ℕ) → t < S .tasks → countOf t ts ≡ 1
+  pub nothing-else : (t : ℕ) → S .tasks ≤ t → countOf t ts ≡ 0
+  pub pairs : (i : ℕ) → i < S .pairs → indexOf (S .sender i) ts < indexOf (S .receiver i) ts
+
 -- task t is in list K: bit t of K
 abbrev pub HasTask : ℕ → ℕ → Type 0
 HasTask K t = K / 2 ^ t % 2 ≡ 1
@@ -162,7 +167,7 @@ pub data SheetApplies (b : List ℕ) (r : ℕ) : Type 0 where
   -- 15: some task has no door
   is15 : r ≡ 15 → (t : ℕ) → t < decode b .tasks → ((d : ℕ) → d < decode b .doors → decode b .task d ≡ t → ⊥) → SheetApplies b r
   -- 17: no order of the tasks keeps every pair
-  is17 : r ≡ 17 → ((ts : List ℕ) → isAdmissible (decode b) ts ≡ true → ⊥) → SheetApplies b r
+  is17 : r ≡ 17 → ((ts : List ℕ) → KeepsPairs (decode b) ts → ⊥) → SheetApplies b r
   -- 16: some list K from 1 to 2^N - 1, with the receiver of each pair whose sender it has, has E plus the w of its tasks below zero
   is16 : r ≡ 16 → (K : ℕ) → 1 ≤ K → K < 2 ^ decode b .tasks → Closed (decode b) K → BelowZero (decode b) K → SheetApplies b r
 
@@ -332,6 +337,9 @@ pub record SumsHold (b : List ℕ) : Type 0 where
       → CostsSum (decode b) (decode b .startPoint s) (length ds) (doorOf ds) (roundCost (decode b) s ds)
   pub completions : (K p : ℕ) (ds : List ℕ) → K < 2 ^ decode b .tasks → Closed (decode b) K → isCompletion (decode b) K ds ≡ true
       → CostsSum (decode b) p (length ds) (doorOf ds) (cost (decode b) p ds)
+  -- a completion of K has the tasks of K: it is the sum of 2^t over the tasks t of its doors
+  pub completes : (K : ℕ) (ds : List ℕ) → K < 2 ^ decode b .tasks → isCompletion (decode b) K ds ≡ true
+      → K ≡ sumFrom 0 (length ds) (λ j. 2 ^ decode b .task (doorOf ds j))
   -- a plan that 30 to 33 do not refuse costs such a sum, and gets 34 exactly if it states another number
   pub gets-34 : (q : List ℕ) → ((r : ℕ) → Between 30 33 r → validate b q ≡ refused r → ⊥)
       → (c : ℕ) × CostsSum (decode b) (decode b .startPoint (startStated q)) (tasksStated b) (doorStated q) c
@@ -339,17 +347,33 @@ pub record SumsHold (b : List ℕ) : Type 0 where
   -- the cost that planning answers is the sum of the plan that it leaves in the buffer
   pub planned : (cells buffer : List ℕ) (c : ℕ) → plan b cells buffer .answer ≡ accepted c
       → CostsSum (decode b) (decode b .startPoint (startStated (plan b cells buffer .bytes))) (tasksStated b) (doorStated (plan b cells buffer .bytes)) c
-  -- and each cell of a closed list is the sum of some completion
+  -- each cell of a closed list is the sum of some completion
   pub cells : (cells buffer : List ℕ) (c : ℕ) → plan b cells buffer .answer ≡ accepted c
       → (K p : ℕ) → K < 2 ^ decode b .tasks → Closed (decode b) K → p < decode b .points
       → (ds : List ℕ) × (isCompletion (decode b) K ds ≡ true)
       × CostsSum (decode b) p (length ds) (doorOf ds) (getD (plan b cells buffer .cells) (K * decode b .points + p) 0)
+  -- and each cell of another list is as lent
+  pub other-cells : (cells buffer : List ℕ) (c : ℕ) → plan b cells buffer .answer ≡ accepted c
+      → (K p : ℕ) → K < 2 ^ decode b .tasks → (Closed (decode b) K → ⊥) → p < decode b .points
+      → getD (plan b cells buffer .cells) (K * decode b .points + p) 0 ≡ getD cells (K * decode b .points + p) 0
   -- every essential list is the list of the tasks of d i .. d (N - 1) for some solution and some i
   pub lists-met : (K : ℕ) → 1 ≤ K → K < 2 ^ decode b .tasks → Closed (decode b) K
       → (s : ℕ) × (ds : List ℕ) × (i : ℕ) × (isSolution (decode b) s ds ≡ true) × (i < decode b .tasks)
       × (K ≡ sumFrom i (decode b .tasks) (λ j. 2 ^ decode b .task (doorOf ds j)))
 
 -- ---- what is printed
+
+-- the number that digits stand for, behind those that stand for v
+abbrev pub digitsValue : ℕ → List ℕ → ℕ
+digitsValue v [] = v
+digitsValue v (d ∷ ds) = digitsValue (10 * v + (d - 48)) ds
+
+-- text is n in decimal: digits, 48 to 57, that stand for n, of which the first is 48 only for 0, which is one digit
+pub record IsDecimal (n : ℕ) (text : List ℕ) : Type 0 where
+  pub digits : (i : ℕ) → i < length text → Between 48 57 (getD text i 0)
+  pub value : digitsValue 0 text ≡ n
+  pub first : 0 < n → 48 < getD text 0 0
+  pub zero-is : n ≡ 0 → length text ≡ 1
 
 -- line k for a plan of n doors: the cost, the start, and a line for each step; `open` before step i is the sum of 2^t over the tasks t of d i .. d (n - 1). Byte 10 ends it
 abbrev pub lineText : Sheet → ℕ → ℕ → ℕ → (ℕ → ℕ) → ℕ → List ℕ
@@ -379,9 +403,10 @@ pub record PrintingHolds (b cells : List ℕ) : Type 0 where
 -- ---- all of it
 
 pub record FiguresHold : Type 0 where
-  -- a number of k bytes is the sum of byte j times 256^j, and w is in two's complement
+  -- a number of k bytes is the sum of byte j times 256^j; w is in two's complement; and what an integer adds to a load, less what it takes away, is that integer
   pub numbers : (k : ℕ) (b : List ℕ) (i : ℕ) → numberAt k b i ≡ sumBelow k (λ j. getD b (i + j) 0 * 256 ^ j)
   pub signs : (n : ℕ) → n < 65536 → (n < 32768 → signed 2 n ≡ pos n) × (32768 ≤ n → signed 2 n +ℤ pos 65536 ≡ pos n)
+  pub parts : (z : ℤ) → z +ℤ pos (down z) ≡ pos (up z)
   -- every field of a sheet stands where document 01 puts it
   pub stands-at : (b : List ℕ) → StandsAt b (decode b)
   -- each call is refused with its numbers, and accepts, exactly where document 01 says so
@@ -391,6 +416,9 @@ pub record FiguresHold : Type 0 where
   pub writing-a-plan : (n start : ℕ) (doors : List ℕ) (c : ℕ) (buffer : List ℕ)
       → AnswersBy writingOrder (WritingApplies n (length doors) (length buffer)) (writePlan n start doors c buffer .answer)
   pub reading-a-plan : (n lent : ℕ) (q : List ℕ) → AnswersBy readingPlanOrder (ReadingPlanApplies n lent q) (readPlan n lent q)
+  -- a sheet gets 17 only if no numbering of the tasks gives every sender a lower number than its receiver
+  pub no-numbering : (b : List ℕ) → status (readSheet b) ≡ 17
+      → (f : ℕ → ℕ) → ((i : ℕ) → i < decode b .pairs → f (decode b .sender i) < f (decode b .receiver i)) → ⊥
   -- what reading a plan answers: the start, of the doors lent the first n as stated and 0 from n on, and the cost
   pub plan-read : (n lent : ℕ) (q : List ℕ) (x : PlanRead) → readPlan n lent q ≡ accepted x → ReadAs n lent q x
   -- with twelve doors lent, as document 01 has it, 12 is for N outside 1 to 12 alone
@@ -407,5 +435,6 @@ pub record FiguresHold : Type 0 where
   pub costs-sum : (S : Sheet) (p n : ℕ) (d L : ℕ → ℕ) → OwnTasks S n d → LoadsAre S n d L → cost S p (mapBelow n d) ≡ routeSum S p n d L
   pub sums : (b : List ℕ) → status (readSheet b) ≡ 0 → SumsHold b
   -- what is printed; and the print program loses nothing by reading at most 9,639 bytes
+  pub decimals : (n : ℕ) → IsDecimal n (decimal n)
   pub printing : (b cells : List ℕ) → PrintingHolds b cells
   pub cut-input : (input : List ℕ) → printed input ≡ printedWith 4096 input

@@ -11,7 +11,7 @@ use Rattle.model.specs.{cellsNeeded, fewCells, roomTests, orNoOrder, planFor, c
 use Rattle.model.specs.Figures.{SheetApplies, Before, AnswersBy}
 use Rattle.model.proofs.Tools.Tests.{or-true, not-less}
 use Rattle.model.proofs.Tools.Folds.{length-mapBelow, mapBelow-at}
-use Rattle.model.proofs.Tools.Refusing.{refused≢accepted, refused-number, accepted-value, returned-refusal, AllPass, Applies}
+use Rattle.model.proofs.Tools.Refusing.{refused≢accepted, refused-number, accepted-value, returned, returned-refusal, AllPass, Applies}
 use Rattle.model.proofs.Tools.Refusing.{accepted-pass, refused-applies}
 use Rattle.model.proofs.Tools.Refusing.{refuse-append, pass-append, applies-append, applies-before, answers-by}
 use Rattle.model.proofs.Theory.Cheapest.{cheapest-solution}
@@ -26,7 +26,7 @@ use Rattle.layers.specs.Layers.{layerCells, OpenCell, LayerFilled}
 use Rattle.price.specs.Pricing.{shortLayer, layerTests, unlessShort, Price, priceOf, priceIn, price, LayerAfter, LayersAfter}
 use Rattle.price.specs.Pricing.{priceRow, RowPlace, rowPlace}
 use Rattle.price.specs.Pricing.{priceCost, priceStart, rowLayer, rowCells}
-use Rattle.price.specs.Claims.{PricingApplies, pricingOrder, EitherShort, PricingHolds, PriceIsPlan, SameLeft, LentOrCost, rowTold, LayersLeft}
+use Rattle.price.specs.Claims.{PricingApplies, pricingOrder, EitherShort, PricingHolds, PriceIsPlan, SameLeft, LentOrCost, rowTold, RowHandedBack, LayersLeft}
 use Rattle.price.specs.Claims.{FewerCells}
 use Rattle.price.proofs.Fits.{Fits, fits, fits-then, refused-alike-22, priced, row-there}
 use Rattle.price.proofs.Quoting.{row-shows}
@@ -232,6 +232,18 @@ same-left b cells buffer even odd cost start e f = go (planFor b (length cells) 
 plain : (S : Sheet) (parity i x y : ℕ) → OpenCell S parity i x y → LentOrCost S parity i x y
 plain S parity i x y (inl e) = inl e
 plain S parity i x y (inr c) = inr (c .list, c .listed, c .allowed, c .of-layer, c .ranked, c .is)
+
+-- what the row call hands back, of layers that hold whatever they hold
+pub handed-back : (b even odd : List ℕ) → RowHandedBack b even odd
+unfolding price rowPlace priceRow
+handed-back b even odd = record {
+  handed = λ layer cells z.
+      let a = pricing b (length even) (length odd) .answers in
+      let x = a .accepts .1 (a .returns-0 .0 z) in
+      let F : Fits b (length even) (length odd) = fits b (length even) (length odd) _ (x .1) .0 in
+      sym (rw (fits-then b (length even) (length odd) _ F) (row-there b even odd F refl refl));
+  empty = λ n. rw (returned (price b (length even) (length odd)) n);
+}
 
 module _ (b even odd even' odd' : List ℕ) where
   -- ---- left by a refusal, left by a price

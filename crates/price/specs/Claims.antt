@@ -1,7 +1,11 @@
 -- What is claimed of pricing, in plain facts and as a caller from C sees it, with the words of 02, Req 01, beside each claim. `pricing`, `price-is-plan`, `same-left`,
--- `layers-left` and `fewer-cells` prove it. Assumes nothing.
+-- `handed-back`, `layers-left` and `fewer-cells` prove it. Assumes nothing.
 -- 02, Req 01: "Price without the plan. Dispatch quotes a round before taking it and needs only the least cost and its first start, in less memory from three tasks on
--- (Note 4.1 of document 000)."
+-- (Note 4.1 of document 000). Two layers of cells are lent: lists of even size go in one, odd in the other. A list's rank is the number of lists of its size with a smaller
+-- number. Ranks come from a table of 289 binomials, n and k from 0 to 16. With B the largest number of lists of one size, each layer needs B times P cells. A second call,
+-- lent the sheet and the layers, hands back the part of whichever layer holds the full list's row, its first P cells, or an empty part where pricing refuses; after pricing
+-- they show the cost to finish the whole round from each point. Cost and start equal the planner's; cells past B times P stay, the layers' other cells are left open, and no
+-- answer hangs on what they held before. Refused: 22, either layer too short, tested after all the sheet's own numbers."
 use mathlib.Core.Path.{_≡_}
 use mathlib.Core.Logic.{_⊎_, _↔_}
 use mathlib.Core.Bool.{true, cond}
@@ -27,8 +31,7 @@ use Rattle.rank.specs.Ranks.{rank}
 use Rattle.layers.specs.Layers.{layerCells}
 use Rattle.price.specs.Pricing.{Price, price, priceRow, rowPlace, priceCost, priceStart, rowLayer, rowCells}
 
--- ---- what the numbers of pricing mean: "With B the largest number of lists of one size, each layer needs B times P cells." "Refused: 22, either layer too short, tested
--- after all the sheet's own numbers."
+-- ---- what the numbers of pricing mean: "each layer needs B times P cells"; "22, either layer too short, tested after all the sheet's own numbers"
 
 -- r applies to the sheet b with layers of so many cells
 pub data PricingApplies (b : List ℕ) (even odd r : ℕ) : Type 0 where
@@ -64,7 +67,7 @@ pub record PricingHolds (b : List ℕ) (even odd : ℕ) : Type 0 where
   pub row-leaves : (layer cells : ℕ) → (status (rowPlace b even odd) ≡ 0 → ⊥)
       → (placed rowLayer (rowPlace b even odd) layer ≡ layer) × (placed rowCells (rowPlace b even odd) cells ≡ cells)
 
--- ---- pricing is planning: "Cost and start equal the planner's" ".. and no answer hangs on what they held before": the answer is made of the layers' lengths alone
+-- ---- pricing is planning: "Cost and start equal the planner's"; "no answer hangs on what they held before", since it is made of the layers' lengths alone
 
 pub record PriceIsPlan (b : List ℕ) (even odd cells room : ℕ) : Type 0 where
   -- where planning answers with a plan, pricing answers, given room, with its cost and its start
@@ -84,9 +87,7 @@ SameLeft b cells buffer even odd = (cost start : ℕ) → status (plan b cells b
     × ((doors : List ℕ) × (length doors ≡ decode b .tasks) × (plan b cells buffer .bytes
     ≡ overwrite (planBytes (decode b .tasks) (placed priceStart (price b even odd) start) doors (placed priceCost (price b even odd) cost)) buffer))
 
--- ---- the layers and the row: "Two layers of cells are lent: lists of even size go in one, odd in the other. A list's rank is the number of lists of its size with a smaller
--- number. Ranks come from a table of 289 binomials, n and k from 0 to 16." "A second call, lent the sheet and the layers, hands back the part of whichever layer holds the
--- full list's row, its first P cells, or an empty part where pricing refuses; after pricing they show the cost to finish the whole round from each point."
+-- ---- the layers and the row: "lists of even size go in one, odd in the other", at their ranks
 
 -- cell i of the layer of a parity held x and holds y: it is as lent, or the cost to go from point i % P of a list that the pairs allow, of rank i / P and of that parity
 abbrev pub LentOrCost : Sheet → ℕ → ℕ → ℕ → ℕ → Type 0
@@ -98,15 +99,20 @@ abbrev pub rowTold : List ℕ → List ℕ → List ℕ → ℕ → ℕ → List
 rowTold b even odd layer cells =
     let place = rowPlace b (length even) (length odd) in take (placed rowCells place cells) (cond (eqb (placed rowLayer place layer) 0) even odd)
 
+-- the row of layers that hold whatever they hold: "hands back the part of whichever layer holds the full list's row, its first P cells, or an empty part where pricing refuses"
+pub record RowHandedBack (b even odd : List ℕ) : Type 0 where
+  pub handed : (layer cells : ℕ) → status (price b (length even) (length odd)) ≡ 0 → priceRow b even odd ≡ rowTold b even odd layer cells
+  pub empty : (status (price b (length even) (length odd)) ≡ 0 → ⊥) → priceRow b even odd ≡ []
+
 pub record LayersLeft (b even odd even' odd' : List ℕ) : Type 0 where
-  -- on refusal both layers stay, every cell, and there is no row
+  -- on refusal both layers stay, every cell, and there is no row: "or an empty part where pricing refuses"
   pub left-alone : (status (price b (length even) (length odd)) ≡ 0 → ⊥) → (even' ≡ even) × (odd' ≡ odd) × (priceRow b even' odd' ≡ [])
   -- their lengths stay in any case
   pub as-many : (length even' ≡ length even) × (length odd' ≡ length odd)
-  -- ".. cells past B times P stay"
+  -- "cells past B times P stay"
   pub beyond : status (price b (length even) (length odd)) ≡ 0 → (i : ℕ) → mostLists (decode b .tasks) * decode b .points ≤ i
       → (getD even' i 0 ≡ getD even i 0) × (getD odd' i 0 ≡ getD odd i 0)
-  -- the row shows the costs to go of the whole round, as the row call hands it back and as it tells it in C
+  -- "after pricing they show the cost to finish the whole round from each point": the row, as the row call hands it back and as it tells it in C
   pub row-shows : status (price b (length even) (length odd)) ≡ 0
       → priceRow b even' odd' ≡ mapBelow (decode b .points) (costToGo (decode b) (full (decode b .tasks)))
   pub told-shows : (layer cells : ℕ) → status (price b (length even) (length odd)) ≡ 0

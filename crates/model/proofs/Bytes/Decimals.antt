@@ -1,15 +1,10 @@
 -- A number in decimal: digits, the first not 0 unless the number is, that stand for the number. Assumes nothing.
 use Rattle.model.proofs.Basics.{_≡_, refl, _∙_, true, false, List, [], _∷_, _++_, ℕ, zero, suc, _+_, _-_, _*_, _/_, _%_, _≤_, _<_}
 use Rattle.model.proofs.Basics.{arith, ltb, length, getD, length-append, ltb-true, ltb-false}
-use Rattle.model.specs.{decimalBy, decimal}
-use Rattle.model.proofs.Tools.{Lists.All, Lists.all-append, Tests.by-test}
+use Rattle.model.specs.{decimalBy, decimal, Figures.digitsValue, Figures.IsDecimal}
+use Rattle.model.proofs.Tools.{Lists.All, Lists.all-append, Lists.all-getD, Tests.by-test}
 
--- the number that digits stand for, after those that stand for v
-abbrev pub valueFrom : ℕ → List ℕ → ℕ
-valueFrom v [] = v
-valueFrom v (d ∷ ds) = valueFrom (10 * v + (d - 48)) ds
-
-value-append : (v : ℕ) (ds es : List ℕ) → valueFrom v (ds ++ es) ≡ valueFrom (valueFrom v ds) es
+value-append : (v : ℕ) (ds es : List ℕ) → digitsValue v (ds ++ es) ≡ digitsValue (digitsValue v ds) es
 value-append v [] es = refl
 value-append v (d ∷ ds) es = value-append (10 * v + (d - 48)) ds es
 
@@ -21,13 +16,13 @@ more-digits : (k n : ℕ) → ltb n 10 ≡ false → decimalBy (suc k) n ≡ dec
 more-digits k n w = rw (w, decimalBy)
 
 -- the digits stand for the number
-by-value : (k n : ℕ) → valueFrom 0 (decimalBy k n) ≡ n
+by-value : (k n : ℕ) → digitsValue 0 (decimalBy k n) ≡ n
 by-value zero n = omega arith
 by-value (suc k) n = by-test (ltb n 10)
     (λ w. rw (one-digit k n w) (omega arith))
     (λ w. rw (more-digits k n w) (value-append 0 (decimalBy k (n / 10)) ((48 + n % 10) ∷ []) ∙ omega (arith, by-value k (n / 10))))
 
-pub decimal-value : (n : ℕ) → valueFrom 0 (decimal n) ≡ n
+pub decimal-value : (n : ℕ) → digitsValue 0 (decimal n) ≡ n
 unfolding decimal
 decimal-value n = by-value n n
 
@@ -62,3 +57,13 @@ by-first (suc k) n l = by-test (ltb n 10)
 pub decimal-first : (n : ℕ) → 0 < n → 48 < getD (decimal n) 0 0
 unfolding decimal
 decimal-first n = by-first n n
+
+-- all of it
+pub decimal-is : (n : ℕ) → IsDecimal n (decimal n)
+unfolding decimal
+decimal-is n = record {
+  digits = λ i l. all-getD _ (decimal n) 0 (decimal-digits n) i l;
+  value = decimal-value n;
+  first = decimal-first n;
+  zero-is = λ e. rw e refl;
+}

@@ -1,8 +1,8 @@
 -- All of document 01's figures: `figures`, from the theorems on each call, on sums and on lines. Assumes nothing.
-use Rattle.model.proofs.Basics.{_≡_, ap, _∙_, ℕ, suc, _-_, _*_, _≤_, _<_, arith, pos, _+ℤ_, lt-ltb, le-ltb}
-use Rattle.model.specs.{signed, Figures.FiguresHold}
-use Rattle.model.proofs.{Bytes.Numbers.number-sum, Theory.Loads.sub-pos, Theory.RouteSums.costs-sum, Calls.Judged.validating-answers, Calls.Sums.sums-hold}
-use Rattle.model.proofs.Calls.{Figures.stands-at, Figures.lengths-between, Figures.reading-answers, Figures.planning-answers, Printing.cut-input, Lines.printing-holds}
+use Rattle.model.proofs.Basics.{_≡_, ap, _∙_, ℕ, suc, _-_, _*_, _≤_, _<_, arith, ℤ, pos, negsuc, _+ℤ_, lt-ltb, le-ltb}
+use Rattle.model.specs.{signed, up, down, Figures.FiguresHold}
+use Rattle.model.proofs.{Bytes.Numbers.number-sum, Bytes.Decimals.decimal-is, Theory.Loads.sub-pos, Theory.RouteSums.costs-sum, Calls.Judged.validating-answers, Calls.Sums.sums-hold}
+use Rattle.model.proofs.Calls.{Figures.stands-at, Figures.no-numbering, Figures.lengths-between, Figures.reading-answers, Figures.planning-answers, Printing.cut-input, Lines.printing-holds}
 use Rattle.model.proofs.Calls.PlanFigures.{writing-answers, plan-reading-answers, writing-twelve, reading-twelve, plan-read}
 
 -- two's complement of 16 bits
@@ -17,16 +17,23 @@ negative n l h = rw (le-ltb (2 * n) 65536 (omega arith)) (sub-pos 65536 (suc (65
     whole : (n : ℕ) → n < 65536 → 65536 - suc (65535 - n) ≡ n
     whole n l = omega arith
 
+-- what an integer adds, less what it takes away, is that integer
+parts : (z : ℤ) → z +ℤ pos (down z) ≡ pos (up z)
+parts (pos n) = ap pos (omega arith)
+parts (negsuc n) = sub-pos (suc n) (suc n) (omega arith) ∙ ap pos (omega arith)
+
 pub figures : FiguresHold
 figures = record {
   numbers = number-sum;
   signs = λ n l. (not-negative n, negative n l);
+  parts = parts;
   stands-at = stands-at;
   reading = reading-answers;
   planning = planning-answers;
   validating = validating-answers;
   writing-a-plan = writing-answers;
   reading-a-plan = plan-reading-answers;
+  no-numbering = no-numbering;
   plan-read = plan-read;
   writing-twelve = writing-twelve;
   reading-twelve = reading-twelve;
@@ -35,6 +42,7 @@ figures = record {
   longest = λ b h n d s q r p m. omega (arith, h .ends);
   costs-sum = costs-sum;
   sums = sums-hold;
+  decimals = decimal-is;
   printing = printing-holds;
   cut-input = cut-input;
 }

@@ -3,18 +3,18 @@
 use Rattle.model.proofs.Basics.{_≡_, refl, sym, ap, _⊎_, inl, inr, _↔_, true, false, not, List, _++_, ℕ, suc, _+_, _*_, _^_}
 use Rattle.model.proofs.Basics.{_≤_, _<_, arith, eqb, pos, ltZ, lit<, length, eqb-true, eqb-false, eq-eqb, ne-eqb, ltb-true, lt-ltb, not-true}
 use Rattle.model.proofs.Basics.{not-false}
-use Rattle.model.specs.{Answer.Answer, isBetween, anyBelow, bit, essential, load, lightList, kind1, fieldWidth, bytesBefore, entryBytes, lineAt}
+use Rattle.model.specs.{Answer.Answer, isBetween, anyBelow, bit, noOrder, essential, load, lightList, kind1, fieldWidth, bytesBefore, entryBytes, lineAt}
 use Rattle.model.specs.{lineBody, lineOffset, entries, bodyAt, fieldAt, decodeBy, layoutOf, decode, tooShort, wrongKind, wrongEntries}
 use Rattle.model.specs.{someWrongEntries, wrongLine, wrongLength, wrongPlaces, outOfRange, lacksDoor, someLacksDoor, tooLight}
 use Rattle.model.specs.{sheetTests, unlessFault, readSheet, InRange, numberAt, signed, refused, accepted, Plan, planCost, cheapest}
-use Rattle.model.specs.{cellsNeeded, fewCells, roomTests, orNoOrder, planFor, carriedOut, plan, shortRoom}
-use Rattle.model.specs.Figures.{tasksStated, pointsStated, StandsAt, Between, RightEntries, RightPlaces, RightRanges, SheetApplies}
+use Rattle.model.specs.{status, cellsNeeded, fewCells, roomTests, orNoOrder, planFor, carriedOut, plan, shortRoom}
+use Rattle.model.specs.Figures.{tasksStated, pointsStated, StandsAt, Between, RightEntries, RightPlaces, RightRanges, KeepsPairs, SheetApplies}
 use Rattle.model.specs.Figures.{is10, is11, is12, is13, is14, is15, is16, is17, Closed, BelowZero, PlanningApplies, sheetOrder, planningOrder, AnswersBy}
 use Rattle.model.proofs.Tools.Refusing.{refused≢accepted, refused-number, Applies, refuse-append, pass-append, applies-append}
 use Rattle.model.proofs.Tools.Refusing.{answers-by}
 use Rattle.model.proofs.Tools.Tests.{or-left, or-right, between-is, all-at, all-below, none-at, any-true, one-passes, passes-unless}
-use Rattle.model.proofs.Tools.Tests.{and-left, and-right, and-both}
-use Rattle.model.proofs.{Theory.Loads.ups, Theory.Loads.downs, Theory.Loads.load-negative, Theory.Meanings.essential-means, Theory.Enumerations.no-order-iff, Bytes.Ranges.in-range, Bytes.Ranges.least-counts}
+use Rattle.model.proofs.Tools.Tests.{and-left, and-right, and-both, by-test}
+use Rattle.model.proofs.{Theory.Loads.ups, Theory.Loads.downs, Theory.Loads.load-negative, Theory.Meanings.essential-means, Theory.Meanings.admissible-means, Theory.Enumerations.no-order-iff, Theory.NoOrder.numbered, Bytes.Ranges.in-range, Bytes.Ranges.least-counts}
 use Rattle.model.proofs.{Bytes.Ranges.range-passes, Bytes.Entries.entries-within, Bytes.PlanBytes.length-is, Calls.Reading.all-reads}
 use Rattle.model.proofs.{Calls.Planning.has-plan, Calls.Passing.end-between, Calls.Passing.right-line}
 
@@ -178,6 +178,13 @@ module _ (b : List ℕ) where
         (below-zero K .1 (h .4)))),
   )
 
+  -- 17 by the orders that keep every pair
+  no-order : (noOrder (decode b) ≡ true) ↔ ((ts : List ℕ) → KeepsPairs (decode b) ts → ⊥)
+  no-order = (
+    (λ h ts k. no-order-iff (decode b) .0 h ts (admissible-means (decode b) ts .1 k)),
+    (λ h. no-order-iff (decode b) .1 (λ ts a. h ts (admissible-means (decode b) ts .0 a))),
+  )
+
   -- each of the sheet's tests applies exactly where its number does
   pub sheet-applies : (r : ℕ) → Applies (sheetTests b) r ↔ SheetApplies b r
   unfolding sheetTests
@@ -190,7 +197,7 @@ module _ (b : List ℕ) where
       there (inr (inr (inr (inl h)))) = is13 (h .0) (passes-unless _ right-places .0 (h .1))
       there (inr (inr (inr (inr (inl h))))) = is14 (h .0) (passes-unless _ right-ranges .0 (h .1))
       there (inr (inr (inr (inr (inr (inl h)))))) = let n = no-door .0 (h .1) in is15 (h .0) (n .0) (n .1) (n .2)
-      there (inr (inr (inr (inr (inr (inr (inl h))))))) = is17 (h .0) (no-order-iff (decode b) .0 (h .1))
+      there (inr (inr (inr (inr (inr (inr (inl h))))))) = is17 (h .0) (no-order .0 (h .1))
       there (inr (inr (inr (inr (inr (inr (inr (inl h)))))))) = let k = too-light .0 (h .1) in is16 (h .0) (k .0) (k .1) (k .2) (k .3) (k .4)
       there (inr (inr (inr (inr (inr (inr (inr (inr h)))))))) = absurd h
 
@@ -201,7 +208,7 @@ module _ (b : List ℕ) where
       back (is13 e h) = inr (inr (inr (inl (e, passes-unless _ right-places .1 h))))
       back (is14 e h) = inr (inr (inr (inr (inl (e, passes-unless _ right-ranges .1 h)))))
       back (is15 e t l h) = inr (inr (inr (inr (inr (inl (e, no-door .1 (t, l, h)))))))
-      back (is17 e h) = inr (inr (inr (inr (inr (inr (inl (e, no-order-iff (decode b) .1 h)))))))
+      back (is17 e h) = inr (inr (inr (inr (inr (inr (inl (e, no-order .1 h)))))))
       back (is16 e K k l h m) = inr (inr (inr (inr (inr (inr (inr (inl (e, too-light .1 (K, k, l, h, m)))))))))
 
 -- the lengths of sheets
@@ -215,6 +222,26 @@ lengths-between b h k =
 pub reading-answers : (b : List ℕ) → AnswersBy sheetOrder (SheetApplies b) (readSheet b)
 unfolding readSheet unlessFault sheetTests
 reading-answers b = answers-by sheetOrder (sheetTests b) _ (SheetApplies b) refl (λ p. (_, refl)) (λ r n. sheet-applies b r)
+
+-- where reading gets 17, no order of the tasks keeps every pair
+said-17 : (b : List ℕ) (r : ℕ) → r ≡ 17 → SheetApplies b r → (ts : List ℕ) → KeepsPairs (decode b) ts → ⊥
+said-17 b r e (is10 q h) = absurd (omega arith)
+said-17 b r e (is11 q h) = absurd (omega arith)
+said-17 b r e (is12 q h) = absurd (omega arith)
+said-17 b r e (is13 q h) = absurd (omega arith)
+said-17 b r e (is14 q h) = absurd (omega arith)
+said-17 b r e (is15 q t l h) = absurd (omega arith)
+said-17 b r e (is17 q h) = h
+said-17 b r e (is16 q K k l h m) = absurd (omega arith)
+
+-- and no numbering of the tasks gives every sender a lower number than its receiver, as 14 does not apply
+pub no-numbering : (b : List ℕ) → status (readSheet b) ≡ 17
+    → (f : ℕ → ℕ) → ((i : ℕ) → i < decode b .pairs → f (decode b .sender i) < f (decode b .receiver i)) → ⊥
+no-numbering b e f agrees =
+    let w = reading-answers b .returns 17 (omega arith) .0 e in
+    by-test (outOfRange (layoutOf b) (decode b))
+    (λ o. w .1 14 (lit< tt) (is14 refl (passes-unless _ (right-ranges b) .0 o)))
+    (λ o. numbered (decode b) (in-range (layoutOf b) (decode b) o) f agrees (no-order b .1 (said-17 b 17 refl (w .0))))
 
 -- ---- planning
 

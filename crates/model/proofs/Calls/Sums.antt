@@ -9,12 +9,13 @@ use Rattle.model.specs.{notInSheet, doneTwice, breaksPair, wrongCost, ro
 use Rattle.model.specs.Demands.{LegsHold}
 use Rattle.model.specs.Figures.{Between, Closed, tasksStated, startStated, doorStated, costStated, sumFrom, CostsSum, doorOf, SumsHold}
 use Rattle.model.proofs.Tools.{Tests.and-left, Tests.and-right, Tests.by-test, Folds.length-mapBelow, Arrays.map-elements, Refusing.refused≢accepted}
+use Rattle.model.proofs.TaskLists.Masks.{bit-none}
 use Rattle.model.proofs.Theory.RouteSums.{order-own, open-sum, costs-by-sum}
 use Rattle.model.proofs.Theory.{Solutions.solution, Solutions.solution-length, Solutions.solution-fits, Meanings.essential-means, EssentialOpen.essential-open}
-use Rattle.model.proofs.Theory.{Cheapest.cheapest-solution, Cheapest.to-go-attained, Driving.some-completion}
+use Rattle.model.proofs.Theory.{Completions.open-is, Cheapest.cheapest-solution, Cheapest.to-go-attained, Driving.some-completion}
 use Rattle.model.proofs.{Bytes.Ranges.in-range, Calls.PlanFigures.stated-start, Calls.PlanFigures.stated-doors}
 use Rattle.model.proofs.Calls.{Reading.Reads, Reading.reads-then, Reading.counts-read, Demands.legs-hold, Room.gets-0, Validating.judged-solution, Interface.reads-sheet}
-use Rattle.model.proofs.Calls.Planning.{accepted-planned, accepted-plan, planned, plannable, cell-shown}
+use Rattle.model.proofs.Calls.Planning.{accepted-planned, accepted-plan, planned, plannable, cell-shown, cell-kept}
 
 -- a closed list is one that the pairs allow, and from 1 on an essential one
 closed-essential : (S : Sheet) (K : ℕ) → 1 ≤ K → Closed S K → essential S K ≡ true
@@ -24,6 +25,13 @@ closed-essential S K g c = essential-means S K .1 ((λ z. omega arith), λ i l m
 closed-allowed : (S : Sheet) (K : ℕ) → Closed S K → pairsAllow S K ≡ true
 unfolding pairsAllow
 closed-allowed S K c = by-test (eqb K 0) (λ w. rw w) (λ w. rw (w, closed-essential S K (omega (arith, eqb-false K 0 w)) c))
+
+-- and nothing else is
+allowed-closed : (S : Sheet) (K : ℕ) → pairsAllow S K ≡ true → Closed S K
+unfolding pairsAllow bit
+allowed-closed S K a i l m = by-test (eqb K 0)
+    (λ w. absurd (omega (arith, m, ap (λ (x : ℕ). bit x (S .sender i)) (eqb-true K 0 w), bit-none (S .sender i))))
+    (λ w. eqb-true _ 1 (essential-means S K .0 (rw w at a) .1 i l (eq-eqb _ 1 m)))
 
 -- what 30 to 33 do not refuse has passed their tests
 passed : (t u v w x : Bool) (c : ℕ)
@@ -60,6 +68,13 @@ module _ (b : List ℕ) (R : Reads b) where
       subst (λ (xs : List ℕ). CostsSum S p (length ds) (doorOf ds) (cost S p xs)) (map-elements ds)
       (costs-by-sum S (length ds) (doorOf ds) (order-own S (length ds) (doorOf ds) K (rw map-elements o))
       (λ i m. rw map-elements (H .of-completions K ds l (closed-allowed S K c) h i m)) p)
+
+  of-list : (K : ℕ) (ds : List ℕ) → K < 2 ^ S .tasks → isCompletion S K ds ≡ true → K ≡ sumFrom 0 (length ds) (λ j. 2 ^ S .task (doorOf ds j))
+  unfolding isCompletion isOrderWithin
+  of-list K ds l h =
+      let o : isOrder (S .tasks) K (map (S .task) ds) ≡ true = and-left _ (keepsPairsWithin S K (map (S .task) ds)) (and-right (inSheet S ds) _ h) in
+      sym (open-is S (plannable b R .ranges) ds K l h) ∙ ap (λ (xs : List ℕ). maskOf (map (S .task) xs)) (sym (map-elements ds))
+      ∙ open-sum S (length ds) (doorOf ds) (order-own S (length ds) (doorOf ds) K (rw map-elements o)) 0
 
   -- a plan that 30 to 33 do not refuse is a solution
   of-judged : (q : List ℕ) → ((r : ℕ) → Between 30 33 r → validate b q ≡ refused r → ⊥)
@@ -118,6 +133,13 @@ module _ (b : List ℕ) (R : Reads b) where
         = rw after (cell-shown S cells K p m l (lt-of-lt-of-le (digits-lt l m) (room .0)) (closed-allowed S K k)) ∙ sym (t .2) in
         (t .0, t .1, rw shown (of-completion K p (t .0) l k (t .1)))
 
+    of-other : (K p : ℕ) → K < 2 ^ S .tasks → (Closed S K → ⊥) → p < S .points
+        → getD (plan b cells buffer .cells) (K * S .points + p) 0 ≡ getD cells (K * S .points + p) 0
+    of-other K p l n m =
+        let room = gets-0 b cells buffer R .0 (ap status e) in
+        rw after (cell-kept S cells K p m l (lt-of-lt-of-le (digits-lt l m) (room .0))
+        (by-test (pairsAllow S K) (λ w. absurd (n (allowed-closed S K w))) (λ w. w)))
+
   -- the list that is open at step i of a solution, as a number
   open-number : (s : ℕ) (ds : List ℕ) → isSolution S s ds ≡ true → (i : ℕ)
       → maskOf (map (S .task) (drop i ds)) ≡ sumFrom i (S .tasks) (λ j. 2 ^ S .task (doorOf ds j))
@@ -140,8 +162,10 @@ sums-hold b e =
     record {
       solutions = of-solution b R;
       completions = of-completion b R;
+      completes = of-list b R;
       gets-34 = of-judged b R;
       planned = of-planned b R;
       cells = of-cell b R;
+      other-cells = of-other b R;
       lists-met = met b R;
     }

@@ -3,7 +3,7 @@ use Rattle.model.proofs.Basics.{_≡_, sym, ap, _∙_, _≢_, _↔_, Bo
 use Rattle.model.proofs.Basics.{List·Memᴰ·not-nil, List·Memᴰ·head, List·Memᴰ·tail, ℕ, _^_, _≤_, _<_, arith, eqb, ltb, eqb-true}
 use Rattle.model.proofs.Basics.{eqb-false, ne-eqb, ltb-true, ltb-false, lt-ltb, not-true}
 use Rattle.model.specs.{allBelow, countOf, indexOf, bit, member, with, full, maskOf, isOrder, keepsPair, keepsEveryPair, pairWithin}
-use Rattle.model.specs.{keepsPairsWithin, isOrderWithin, essential, inSheet, isSolution, isCompletion, SolutionMeans, CompletionMeans}
+use Rattle.model.specs.{keepsPairsWithin, isAdmissible, isOrderWithin, essential, inSheet, isSolution, isCompletion, SolutionMeans, CompletionMeans, Figures.KeepsPairs}
 use Rattle.model.specs.Sheet.{Sheet}
 use Rattle.model.proofs.Tools.Tests.{and-left, and-right, and-both, all-at, all-below, by-test, implied}
 use Rattle.model.proofs.Tools.Lists.{all-member, member-all, all-imply, all-in, in-all, by-member}
@@ -54,34 +54,44 @@ doors-mean S ds = (
   λ h. in-all (λ d. ltb d (S .doors)) ds (member-all _ ds (λ d m. lt-ltb d (S .doors) (h d m))),
 )
 
-pub solution-means : (S : Sheet) (s : ℕ) (ds : List ℕ) → (isSolution S s ds ≡ true) ↔ SolutionMeans S s ds
-unfolding inSheet keepsEveryPair keepsPair
-solution-means S s ds = (
-  (λ h. let x : SolutionTests S s ds = solution S s ds h in record {
-    start = x .start;
-    doors = doors-mean S ds .0 (x .doors);
-    once = λ t l. counts .0 (x .order) t ∙ full-bit (S .tasks) t l;
-    nothing-else = λ t l. counts .0 (x .order) t ∙ beyond t l;
-    pairs = λ i l. ltb-true _ _ (all-at (S .pairs) (keepsPair S ts) (x .pairs) i l);
+-- an order of all tasks that keeps every pair
+pub admissible-means : (S : Sheet) (ts : List ℕ) → (isAdmissible S ts ≡ true) ↔ KeepsPairs S ts
+unfolding isAdmissible keepsEveryPair keepsPair
+admissible-means S ts = (
+  (λ h. let o = and-left (isOrder (S .tasks) (full (S .tasks)) ts) (allBelow (S .pairs) (keepsPair S ts)) h in record {
+    once = λ t l. counts .0 o t ∙ full-bit (S .tasks) t l;
+    nothing-else = λ t l. counts .0 o t ∙ beyond t l;
+    pairs = λ i l. ltb-true _ _ (all-at (S .pairs) (keepsPair S ts) (and-right (isOrder (S .tasks) (full (S .tasks)) ts) _ h) i l);
   }),
-  (λ h. is-solution S s ds (record {
-    start = h .start;
-    doors = doors-mean S ds .1 (h .doors);
-    order = counts .1 (λ t. by-test (ltb t (S .tasks))
-        (λ w. let l = ltb-true t (S .tasks) w in h .once t l ∙ sym (full-bit (S .tasks) t l))
-        (λ w. let l = ltb-false t (S .tasks) w in h .nothing-else t l ∙ sym (beyond t l)));
-    pairs = all-below (S .pairs) (keepsPair S ts) (λ i l. lt-ltb _ _ (h .pairs i l));
-  })),
+  (λ h. and-both
+      (counts .1 (λ t. by-test (ltb t (S .tasks))
+      (λ w. let l = ltb-true t (S .tasks) w in h .once t l ∙ sym (full-bit (S .tasks) t l))
+      (λ w. let l = ltb-false t (S .tasks) w in h .nothing-else t l ∙ sym (beyond t l))))
+      (all-below (S .pairs) (keepsPair S ts) (λ i l. lt-ltb _ _ (h .pairs i l)))),
 )
   where
-    ts : List ℕ
-    ts = map (S .task) ds
-
     counts : (isOrder (S .tasks) (full (S .tasks)) ts ≡ true) ↔ ((t : ℕ) → countOf t ts ≡ bit (full (S .tasks)) t)
     counts = order-means (S .tasks) (full (S .tasks)) ts (full-lt (S .tasks))
 
     beyond : (t : ℕ) → S .tasks ≤ t → bit (full (S .tasks)) t ≡ 0
     beyond t l = bit-above (S .tasks) t (full (S .tasks)) (full-lt (S .tasks)) l
+
+pub solution-means : (S : Sheet) (s : ℕ) (ds : List ℕ) → (isSolution S s ds ≡ true) ↔ SolutionMeans S s ds
+unfolding isAdmissible
+solution-means S s ds = (
+  (λ h.
+      let x : SolutionTests S s ds = solution S s ds h in
+      let k : KeepsPairs S (map (S .task) ds) = admissible-means S (map (S .task) ds) .0 (and-both (x .order) (x .pairs)) in
+      record { start = x .start; doors = doors-mean S ds .0 (x .doors); once = k .once; nothing-else = k .nothing-else; pairs = k .pairs }),
+  (λ h.
+      let a = admissible-means S (map (S .task) ds) .1 (record { once = h .once; nothing-else = h .nothing-else; pairs = h .pairs }) in
+      is-solution S s ds (record {
+        start = h .start;
+        doors = doors-mean S ds .1 (h .doors);
+        order = and-left _ (keepsEveryPair S (map (S .task) ds)) a;
+        pairs = and-right (isOrder (S .tasks) (full (S .tasks)) (map (S .task) ds)) _ a;
+      })),
+)
 
 pub completion-means : (S : Sheet) (K : ℕ) (ds : List ℕ) → K < 2 ^ S .tasks → (isCompletion S K ds ≡ true) ↔ CompletionMeans S K ds
 unfolding isCompletion isOrderWithin keepsPairsWithin keepsPair pairWithin

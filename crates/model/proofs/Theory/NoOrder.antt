@@ -1,13 +1,14 @@
 -- Fault 17: no order of the tasks keeps every pair exactly where striking off, again and again, tasks that can come first leaves something. A strike
--- neither makes nor ends an order, and a pass strikes something off unless no task can come first. Assumes nothing.
+-- neither makes nor ends an order, and a pass strikes something off unless no task can come first. A numbering by which every sender is below its receiver leaves nothing:
+-- of what is left the lowest could come first. Assumes nothing.
 use Rattle.model.proofs.Basics.{_≡_, refl, sym, ap, _∙_, subst, _⊎_, inl, inr, ⊎-elim, true, false, not, List, [], _∷_, ℕ, zero}
-use Rattle.model.proofs.Basics.{suc, _+_, _^_, _≤_, _<_, arith, eqb, eqb-true, eqb-false, ne-eqb, not-true}
-use Rattle.model.specs.{Sheet.Sheet, bit, without, full, size, isOrderWithin, noOrder, maskBits}
+use Rattle.model.proofs.Basics.{suc, _+_, _^_, _≤_, _<_, arith, eqb, eqb-true, eqb-false, ne-eqb, not-true, not-false, _&&_}
+use Rattle.model.specs.{Sheet.Sheet, bit, member, pairWithin, isFree, without, full, size, isOrderWithin, noOrder, maskBits}
 use Rattle.model.specs.{canComeFirst, strikeBelow, strikeOff, somethingLeft}
 use Rattle.model.specs.{InRange}
-use Rattle.model.proofs.Tools.Tests.{same-test, not-both, and-both, by-test, by-last}
+use Rattle.model.proofs.Tools.Tests.{same-test, not-both, and-both, and-left, and-right, one-fails, by-test, by-last}
 use Rattle.model.proofs.TaskLists.Masks.{full-lt, without-same, without-other, without-le, size-none, size-without, size-zero}
-use Rattle.model.proofs.TaskLists.Masks.{size-full, full-of}
+use Rattle.model.proofs.TaskLists.Masks.{size-full, full-of, member-bit, no-bits, by-bit}
 use Rattle.model.proofs.Theory.FirstTask.{within-cons, first-bit, within-uncons, nil-size, size-nil}
 use Rattle.model.proofs.Theory.Existence.{part, part-within, admissible-is}
 use Rattle.model.proofs.Theory.Enumerations.{has-order, no-order-iff}
@@ -110,3 +111,31 @@ module _ (S : Sheet) (R : InRange S) where
   pub something-left : S .tasks < maskBits → noOrder S ≡ somethingLeft S
   unfolding somethingLeft
   something-left few = struck-off ∙ ap (λ (K : ℕ). not (eqb (strikeOff S (S .tasks) K) 0)) (sym (full-of (S .tasks) few))
+
+  -- ---- a numbering of the tasks that gives every sender a lower number than its receiver
+
+  module _ (f : ℕ → ℕ) (agrees : (i : ℕ) → i < S .pairs → f (S .sender i) < f (S .receiver i)) where
+    -- where no task of K can come first, one of a lower number is in K too
+    descend : (K : ℕ) → ((t : ℕ) → t < S .tasks → canComeFirst S K t ≡ false) → (m t : ℕ) → f t < m → t < S .tasks → bit K t ≡ 1 → ⊥
+    unfolding canComeFirst isFree pairWithin
+    descend K stuck zero t l b e = absurd (omega arith)
+    descend K stuck (suc m) t l b e =
+        let r = one-fails (S .pairs) (λ i. not (pairWithin S K i && eqb t (S .receiver i))) (rw e at (stuck t b)) in
+        let i : ℕ = r .0 in
+        let p = not-false _ (r .2) in
+        let w : pairWithin S K i ≡ true = and-left (pairWithin S K i) _ p in
+        let v : t ≡ S .receiver i = eqb-true _ _ (and-right (pairWithin S K i) _ p) in
+        descend K stuck m (S .sender i) (omega (arith, agrees i (r .1), ap f v)) (R .sender i (r .1))
+        (member-bit K (S .sender i) (and-left (member K (S .sender i)) _ w))
+
+    -- so striking off leaves nothing: there is an order
+    pub numbered : noOrder S ≡ true → ⊥
+    unfolding Idle
+    numbered e =
+        let K : ℕ = strikeOff S (S .tasks) (full (S .tasks)) in
+        let below : K < 2 ^ S .tasks = off-below (S .tasks) (full (S .tasks)) (full-lt (S .tasks)) in
+        let left : K ≡ 0 → ⊥ = eqb-false _ 0 (not-true _ (sym struck-off ∙ e)) in
+        ⊎-elim
+        (λ i. left (no-bits (S .tasks) K below (λ t l. by-bit K t (λ z. z) (λ z. absurd (descend K (i .1) (suc (f t)) t (omega arith) l z)))))
+        (λ h. left (size-zero (S .tasks) K below (omega (arith, size-full (S .tasks)))))
+        (after (S .tasks) (full (S .tasks)))
