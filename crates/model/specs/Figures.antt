@@ -368,12 +368,12 @@ abbrev pub digitsValue : ℕ → List ℕ → ℕ
 digitsValue v [] = v
 digitsValue v (d ∷ ds) = digitsValue (10 * v + (d - 48)) ds
 
--- text is n in decimal: digits, 48 to 57, that stand for n, of which the first is 48 only for 0, which is one digit
+-- text is n in decimal: digits, 48 to 57, that stand for n, the first of them above 48, but for 0, which is 48 alone
 pub record IsDecimal (n : ℕ) (text : List ℕ) : Type 0 where
   pub digits : (i : ℕ) → i < length text → Between 48 57 (getD text i 0)
   pub value : digitsValue 0 text ≡ n
   pub first : 0 < n → 48 < getD text 0 0
-  pub zero-is : n ≡ 0 → length text ≡ 1
+  pub zero-is : n ≡ 0 → text ≡ 48 ∷ []
 
 -- line k for a plan of n doors: the cost, the start, and a line for each step; `open` before step i is the sum of 2^t over the tasks t of d i .. d (n - 1). Byte 10 ends it
 abbrev pub lineText : Sheet → ℕ → ℕ → ℕ → (ℕ → ℕ) → ℕ → List ℕ
