@@ -306,12 +306,16 @@ module _ (b even odd even' odd' : List ℕ) where
 
 -- ---- fewer cells
 
+fewer : (S : Sheet) → 1 ≤ S .points → 3 ≤ S .tasks → 2 * layerCells S < cellsNeeded S
+unfolding layerCells cellsNeeded
+fewer S p l =
+    let less : 2 * mostLists (S .tasks) + 1 ≤ 2 ^ S .tasks = omega (arith, two-layers-less (S .tasks) l) in
+    omega (arith, p, mul-le-mul-right (S .points) less)
+
 pub fewer-cells : (S : Sheet) → FewerCells S
 unfolding layerCells cellsNeeded
 fewer-cells S = record {
-  three-on = λ p l.
-      let less : 2 * mostLists (S .tasks) + 1 ≤ 2 ^ S .tasks = omega (arith, two-layers-less (S .tasks) l) in
-      omega (arith, p, mul-le-mul-right (S .points) less);
+  three-on = fewer S;
   one-or-two = ⊎-elim
       (λ (e : S .tasks ≡ 1). rw e (omega (arith, ap (λ (n : ℕ). n * S .points) two-layers-same-1)))
       (λ (e : S .tasks ≡ 2). rw e (omega (arith, ap (λ (n : ℕ). n * S .points) two-layers-same-2)));
