@@ -48,7 +48,7 @@ module _ {b : List ℕ} {v : View} {K p : ℕ} {cells : List ℕ} (C : Completab
   module _ {rows : List ℕ} (O : OpenList b v K cells rows) {w m : ℕ} {doors arrives costs : List ℕ}
       (h : Holding (decode b) K cells rows w m doors arrives costs)
       {i here : ℕ} (hh : here ≡ getD cells (K * v .points + p) 0)
-      (hi : i ≡ indexOf here (mapBelow (length (take m costs)) (throughGathered (decode b) w (take m arrives) (take m costs) p))) where
+      (hi : i ≡ indexOf here (mapBelow (length (take m costs)) (throughGathered (decode b .distance) w (take m arrives) (take m costs) p))) where
     place : FirstAt (throughNth (decode b) K cells rows p) (length (firstDoors (decode b) K)) (costToGo (decode b) K p) i
     place =
         let s = some-attains O p in

@@ -1,11 +1,10 @@
 -- The search for the first of the gathered doors that has a cost, and what the place found says. Assumes nothing.
-use Rattle.model.proofs.Basics.{_≡_, refl, sym, _∙_, _≢_, Bool, true, false, cond, List, [], _∷_, ℕ, zero, suc, _+_, _≤_, _<_, arith, eqb}
+use Rattle.model.proofs.Basics.{_≡_, refl, sym, _∙_, _≢_, Bool, true, false, cond, List, [], _∷_, ℕ, zero, suc, _+_, _*_, _^_, _≤_, _<_, arith, eqb}
 use Rattle.model.proofs.Basics.{length, getD, eqb-true, eqb-false}
 use Rattle.model.specs.{mapBelow, indexOf}
-use Rattle.model.specs.Sheet.{Sheet}
 use Rattle.model.proofs.Tools.Folds.{length-mapBelow, mapBelow-at}
 use Rattle.model.proofs.Tools.Walks.{Missed, index-next, index-here, index-none}
-use Rattle.row.specs.Leasts.{throughPoint, throughGathered}
+use Rattle.row.specs.Leasts.{throughPoint, throughGathered, Gathered}
 
 -- ---- where t first stands in a list that has it
 
@@ -45,29 +44,46 @@ found-first n f t j l e =
       not-before = λ k m q. r .not-before k m (mapBelow-at n f k 0 (omega arith) ∙ q);
     }
 
+-- ---- the cost through a door
+
+-- w is the distance that the code reads
+module _ (distance : ℕ → ℕ → ℕ) (load p q part : ℕ) {w : ℕ} (e : w ≡ distance p q) where
+  pub cost-is : w * load + part ≡ throughPoint distance load p q part
+  unfolding throughPoint
+  cost-is = rw e
+
+  pub cost-fits : throughPoint distance load p q part < 2 ^ 64 → w * load + part < 2 ^ 64
+  cost-fits h = rw cost-is h
+
+-- through the i-th of the gathered doors it fits
+pub gathered-fits : {distance : ℕ → ℕ → ℕ} {P load : ℕ} {arrivals parts : List ℕ} → Gathered distance P load arrivals parts → (p i : ℕ)
+    → p < P → i < length parts → throughPoint distance load p (getD arrivals i 0) (getD parts i 0) < 2 ^ 64
+unfolding throughGathered
+gathered-fits h p i l k = omega (arith, h .fits p i l k)
+
 -- ---- the search
 
 -- the doors before the i-th do not have that cost
-pub record PassedOver (S : Sheet) (load : ℕ) (arrivals parts : List ℕ) (p cost i : ℕ) : Type 0 where
-  pub missed : Missed cost (mapBelow (length parts) (throughGathered S load arrivals parts p)) i
+pub record PassedOver (distance : ℕ → ℕ → ℕ) (load : ℕ) (arrivals parts : List ℕ) (p cost i : ℕ) : Type 0 where
+  pub missed : Missed cost (mapBelow (length parts) (throughGathered distance load arrivals parts p)) i
 
-pub none-passed : (S : Sheet) (load : ℕ) (arrivals parts : List ℕ) (p cost : ℕ) → PassedOver S load arrivals parts p cost 0
-none-passed S load arrivals parts p cost = record { missed = record { within = omega arith; place = omega arith } }
+pub none-passed : (distance : ℕ → ℕ → ℕ) (load : ℕ) (arrivals parts : List ℕ) (p cost : ℕ) → PassedOver distance load arrivals parts p cost 0
+none-passed distance load arrivals parts p cost = record { missed = record { within = omega arith; place = omega arith } }
 
-module _ {S : Sheet} {load : ℕ} {arrivals parts : List ℕ} {p cost i : ℕ} (h : PassedOver S load arrivals parts p cost i) where
+module _ {distance : ℕ → ℕ → ℕ} {load : ℕ} {arrivals parts : List ℕ} {p cost i : ℕ} (h : PassedOver distance load arrivals parts p cost i) where
   abbrev costs : List ℕ
-  costs = mapBelow (length parts) (throughGathered S load arrivals parts p)
+  costs = mapBelow (length parts) (throughGathered distance load arrivals parts p)
 
   size : length costs ≡ length parts
-  size = length-mapBelow (length parts) (throughGathered S load arrivals parts p)
+  size = length-mapBelow (length parts) (throughGathered distance load arrivals parts p)
 
   -- c is what the i-th costs, as the code has it
-  module _ {c : ℕ} (l : i < length parts) (e : c ≡ throughPoint S load p (getD arrivals i 0) (getD parts i 0)) where
+  module _ {c : ℕ} (l : i < length parts) (e : c ≡ throughPoint distance load p (getD arrivals i 0) (getD parts i 0)) where
     at-is : getD costs i 0 ≡ c
     unfolding throughGathered
-    at-is = mapBelow-at (length parts) (throughGathered S load arrivals parts p) i 0 l ∙ sym e
+    at-is = mapBelow-at (length parts) (throughGathered distance load arrivals parts p) i 0 l ∙ sym e
 
-    pub pass-one : (c ≡ cost → ⊥) → PassedOver S load arrivals parts p cost (i + 1)
+    pub pass-one : (c ≡ cost → ⊥) → PassedOver distance load arrivals parts p cost (i + 1)
     pass-one n = record { missed = index-next (h .missed) (omega (arith, size)) (λ q. n (sym at-is ∙ q)) }
 
     pub pass-here : c ≡ cost → i ≡ indexOf cost costs

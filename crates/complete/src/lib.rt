@@ -2,16 +2,25 @@
 // equals the cell here.
 ghost use mathlib.Core.Path.{_≡_};
 ghost use mathlib.Core.Logic.{_≢_};
-ghost use Prim.Native.Nat.{_<_};
+ghost use Prim.Native.Nat.{_^_, _<_};
 ghost use lib.ListN.{length};
 ghost use Rattle.model.specs.Folds.{mapBelow, indexOf};
 ghost use Rattle.model.specs.SheetLayout.{decode};
-ghost use Rattle.row.specs.Leasts.{throughGathered, Gathered};
+ghost use Rattle.view.specs.Views.{Viewed};
+ghost use Rattle.row.specs.Leasts.{throughPoint, throughGathered, Gathered};
 ghost use Rattle.hand.specs.Hands.{handOf};
 ghost use Rattle.complete.specs.Completed.{nextDoor, completed, Completable};
 use hand::Plan;
 use view::MAX_DOORS;
 use view::View;
+
+// From point p through a door that arrives at q, with the part of its cost that does not hang on the point.
+fn through(s: &[u8], v: View, load: u64, p: u16, q: u16, part: u64) -> u64
+    requires { ⌜ Viewed (now s) v × (p < decode (now s) .points) × (q < decode (now s) .points) × (throughPoint (decode (now s) .distance) load p q part < 2 ^ 64) ⌝ }
+    ensures { λ r. ⌜ r ≡ throughPoint (decode (now (s .entry)) .distance) load p q part ⌝ }
+{
+    view::distance(s, v, p, q) as u64 * load + part
+}
 
 // Which of the gathered doors is the first through which the cost from point p is this one; how many they are, where none is.
 fn first_at_cost(
@@ -23,12 +32,12 @@ fn first_at_cost(
     p: u16,
     cost: u64,
 ) -> usize
-    requires { ⌜ Gathered (now s) v load (now arrivals) (now parts) × (p < decode (now s) .points) ⌝ }
-    ensures { λ r. ⌜ r ≡ indexOf cost (mapBelow (length (now (parts .entry))) (throughGathered (decode (now (s .entry))) load (now (arrivals .entry)) (now (parts .entry)) p)) ⌝ }
+    requires { ⌜ Viewed (now s) v × Gathered (decode (now s) .distance) (decode (now s) .points) load (now arrivals) (now parts) × (p < decode (now s) .points) ⌝ }
+    ensures { λ r. ⌜ r ≡ indexOf cost (mapBelow (length (now (parts .entry))) (throughGathered (decode (now (s .entry)) .distance) load (now (arrivals .entry)) (now (parts .entry)) p)) ⌝ }
 {
     let mut i: usize = 0;
     while i < parts.len() {
-        if row::through(s, v, load, p, arrivals[i], parts[i]) == cost {
+        if through(s, v, load, p, arrivals[i], parts[i]) == cost {
             return i;
         }
         i = i + 1;

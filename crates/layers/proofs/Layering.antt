@@ -6,7 +6,7 @@ use Rattle.model.proofs.Basics.{arith, ltb, length, getD, ltb-true, ltb-false, 
 use Rattle.model.specs.{mapBelow, bit, full, without, size, essential, pairsAllow, costToGo, overwrite, overwriteAt, maskBits, maxTasks, InRange}
 use Rattle.model.specs.Sheet.{Sheet}
 use Rattle.model.proofs.Tools.Tests.{by-test, by-last, not-both, or-neither}
-use Rattle.model.proofs.Tools.Folds.{length-mapBelow, mapBelow-at}
+use Rattle.model.proofs.Tools.Folds.{length-mapBelow, mapBelow-at, mapBelow-cong}
 use Rattle.model.proofs.TaskLists.Masks.{full-lt, without-le, size-none, size-zero, size-full, size-without}
 use Rattle.model.proofs.Theory.FirstTask.{first-bit, allow-without}
 use Rattle.model.proofs.Theory.OpenAlong.{full-allowed}
@@ -15,7 +15,6 @@ use Rattle.model.proofs.Bytes.Overwriting.{length-over, over-front}
 use lib.Arith.{digits-lt, digits-div, digits-mod}
 use native.Mathlib.Nat.{one-mul, div-lt-iff-lt-mul}
 use Rattle.table.proofs.Bellman.{essential-allowed, Rests, rests-at}
-use Rattle.table.proofs.Parts.{map-cong-below}
 use Rattle.table.proofs.Filling.{over-below, over-in, over-beyond}
 use Rattle.rank.specs.Binomials.{mostLists}
 use Rattle.rank.specs.Ranks.{rank, maxRanked, rankOf, rankRows, NextOfSize}
@@ -263,7 +262,7 @@ module _ (S : Sheet) (even odd : List ℕ) (R : InRange S) (room : layerCells S 
       let there : length row ≤ length even = omega (arith, w, row-room S even 0 (pow-pos (S .tasks)) room) in
       ap (λ (m : ℕ). row ++ drop m even) (e ∙ sym w)
       ∙ sym (over-front row even there)
-      ∙ ap₂ (λ (a : ℕ) (l : List ℕ). overwriteAt a l even) (sym first) (ends ∙ map-cong-below (S .points) _ _ (λ p l. sym (to-go-none S R p)))
+      ∙ ap₂ (λ (a : ℕ) (l : List ℕ). overwriteAt a l even) (sym first) (ends ∙ mapBelow-cong (S .points) _ _ (λ p l. sym (to-go-none S R p)))
 
   pub first-stage : Stage S 0 even odd (row ++ drop n even) odd
   unfolding pairsAllow

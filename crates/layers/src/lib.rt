@@ -4,15 +4,25 @@ ghost use mathlib.Core.Bool.{true};
 ghost use Prim.Native.Nat.{_-_, _%_, _^_, _≤_, _<_};
 ghost use Rattle.model.specs.Orders.{essential};
 ghost use Rattle.model.specs.SheetLayout.{decode};
+ghost use Rattle.row.specs.Leasts.{Columns};
 ghost use Rattle.rank.specs.Ranks.{Tabled};
 ghost use Rattle.layers.specs.Layers.{withRow, Layered, Shows, ShowsRests, Kept, LayerFilled};
+use columns::MAX_DISTANCES;
 use rank::Table;
 use view::MAX_DOORS;
 use view::View;
 
 // Writes the row of the essential list k into its layer, from the one below, which shows the lists with one task less.
-fn list_row(s: &[u8], v: View, table: &Table, k: u32, below: &[u64], here: &mut [u64])
-    requires { ⌜ Layered (now s) v (now below) (now here) × Tabled (now table) × (k < 2 ^ decode (now s) .tasks) × (essential (decode (now s)) k ≡ true) × ShowsRests (decode (now s)) k (now below) ⌝ }
+fn list_row(
+    s: &[u8],
+    v: View,
+    columns: &[u64],
+    table: &Table,
+    k: u32,
+    below: &[u64],
+    here: &mut [u64],
+)
+    requires { ⌜ Layered (now s) v (now below) (now here) × Columns (decode (now s) .distance) (decode (now s) .points) (now columns) × Tabled (now table) × (k < 2 ^ decode (now s) .tasks) × (essential (decode (now s)) k ≡ true) × ShowsRests (decode (now s)) k (now below) ⌝ }
     ensures { λ _. ⌜ now (here .exit) ≡ withRow (decode (now (s .entry))) k (now (here .entry)) ⌝ }
 {
     let load = cost::load(s, v, k);
@@ -35,9 +45,8 @@ fn list_row(s: &[u8], v: View, table: &Table, k: u32, below: &[u64], here: &mut 
     let from = rows.own;
     let end = from + v.points as usize;
     row::row(
-        s,
-        v,
-        load,
+        columns,
+        load as u32,
         &arrivals[..m],
         &parts[..m],
         &mut here[from..end],
@@ -45,8 +54,16 @@ fn list_row(s: &[u8], v: View, table: &Table, k: u32, below: &[u64], here: &mut 
 }
 
 // Writes the rows of the essential lists of m tasks, in the order of their numbers.
-fn size_rows(s: &[u8], v: View, table: &Table, m: u16, below: &[u64], here: &mut [u64])
-    requires { ⌜ Layered (now s) v (now below) (now here) × Tabled (now table) × (1 ≤ m) × (m ≤ decode (now s) .tasks) × Shows (decode (now s)) (m - 1) (now below) ⌝ }
+fn size_rows(
+    s: &[u8],
+    v: View,
+    columns: &[u64],
+    table: &Table,
+    m: u16,
+    below: &[u64],
+    here: &mut [u64],
+)
+    requires { ⌜ Layered (now s) v (now below) (now here) × Columns (decode (now s) .distance) (decode (now s) .points) (now columns) × Tabled (now table) × (1 ≤ m) × (m ≤ decode (now s) .tasks) × Shows (decode (now s)) (m - 1) (now below) ⌝ }
     ensures shown { λ _. ⌜ Shows (decode (now (s .entry))) m (now (here .exit)) ⌝ }
     ensures kept { λ _. ⌜ Kept (decode (now (s .entry))) (m % 2) (now (here .entry)) (now (here .exit)) ⌝ }
 {
@@ -54,7 +71,7 @@ fn size_rows(s: &[u8], v: View, table: &Table, m: u16, below: &[u64], here: &mut
     let mut k = tasklist::full(m);
     while k < lists {
         if essential::essential(s, v, k) {
-            list_row(s, v, table, k, below, here);
+            list_row(s, v, columns, table, k, below, here);
         }
         k = rank::next(k);
     }
@@ -68,15 +85,17 @@ pub fn fill(s: &[u8], v: View, even: &mut [u64], odd: &mut [u64])
 {
     let points = v.points as usize;
     table::end_row(s, v, &mut even[..points]);
+    let mut columns = [0u64; MAX_DISTANCES];
+    columns::fill(s, v, &mut columns);
     let table = rank::pascal();
     let tasks = v.tasks;
     let mut m: u16 = 0;
     while m < tasks {
         m = m + 1;
         if m % 2 == 0 {
-            size_rows(s, v, &table, m, odd, even);
+            size_rows(s, v, &columns, &table, m, odd, even);
         } else {
-            size_rows(s, v, &table, m, even, odd);
+            size_rows(s, v, &columns, &table, m, even, odd);
         }
     }
 }

@@ -1,117 +1,85 @@
-// A row of the table of costs to go: for each point, the least cost through the doors that were gathered. It knows no list, and so serves wherever a row is wanted.
+// A row of the table of costs to go: for each point, the least cost through the doors that were gathered. It knows no list, no sheet and no bytes, and so serves wherever a
+// row is wanted; of floats it knows only that numbers stand in them.
 ghost use mathlib.Core.Path.{_≡_};
-ghost use Prim.Native.Nat.{_^_, _<_, min};
-ghost use lib.ListN.{length};
+ghost use Prim.Native.Nat.{ℕ, _+_, _*_, _^_, _≤_, _<_, min};
+ghost use lib.ListN.{length, getD};
 ghost use Rattle.model.specs.Folds.{mapBelow};
-ghost use Rattle.model.specs.SheetLayout.{decode};
-ghost use Rattle.view.specs.Views.{Viewed};
-ghost use Rattle.row.specs.Leasts.{throughPoint, throughPart, leastFrom, PartDoor, Gathered};
-use view::View;
+ghost use Rattle.minimum.specs.Floats.{Holds};
+ghost use Rattle.row.specs.Leasts.{noCost, leastFrom, Columns, Rowable};
+ghost use Rattle.row.specs.Held.{Held, Column};
 
-const LARGEST: u64 = 18446744073709551615;
+pub const MAX_POINTS: usize = 64;
 
-// From point p through a door that arrives at q, with the part of its cost that does not hang on the point.
-pub fn through(s: &[u8], v: View, load: u64, p: u16, q: u16, part: u64) -> u64
-    requires { ⌜ Viewed (now s) v × (p < decode (now s) .points) × (q < decode (now s) .points) × (throughPoint (decode (now s)) load p q part < 2 ^ 64) ⌝ }
-    ensures { λ r. ⌜ r ≡ throughPoint (decode (now (s .entry))) load p q part ⌝ }
+// More than any cost: 2^60.
+const NO_COST: u64 = 1152921504606846976;
+
+// The least with one door more. The remainder is the distance: it tells the compiler that 32 bits are enough.
+fn lowered(least: f64, distance: u64, load: u32, part: u64) -> f64
+    requires { ⌜ (distance < 2 ^ 32) × (distance * load + part < noCost) × ((n : ℕ) × Holds least n) ⌝ }
+    ensures { λ r. ⌜ ((n : ℕ) → Holds least n → Holds r (min n (distance * load + part))) ⌝ }
 {
-    view::distance(s, v, p, q) as u64 * load + part
+    minimum::lesser(
+        least,
+        minimum::float_of(distance % 4294967296 * load as u64 + part),
+    )
 }
 
-// The least over the gathered doors from point p.
-fn least(s: &[u8], v: View, load: u64, arrivals: &[u16], parts: &[u64], p: u16) -> u64
-    requires { ⌜ Gathered (now s) v load (now arrivals) (now parts) × (p < decode (now s) .points) ⌝ }
-    ensures { λ r. ⌜ r ≡ leastFrom (decode (now (s .entry))) load (now (arrivals .entry)) (now (parts .entry)) p ⌝ }
+// Lowers the least of each point by two doors more, with the columns of the points where they arrive.
+fn lower(
+    first: &[u64],
+    second: &[u64],
+    load: u32,
+    first_part: u64,
+    second_part: u64,
+    leasts: &mut [f64],
+)
+    requires { ⌜ Column (length (now leasts)) (now first) load «first_part» × Column (length (now leasts)) (now second) load «second_part» × ((f : ℕ → ℕ) × Held f (length (now leasts)) (now leasts)) ⌝ }
+    ensures { λ _. ⌜ ((f : ℕ → ℕ) → Held f (length (now (leasts .entry))) (now (leasts .entry)) → Held (λ p. min (min (f p) (getD (now (first .entry)) p 0 * load + «first_part»)) (getD (now (second .entry)) p 0 * load + «second_part»)) (length (now (leasts .entry))) (now (leasts .exit))) ⌝ }
 {
-    let mut best = LARGEST;
-    let mut i: usize = 0;
-    while i < parts.len() {
-        let c = through(s, v, load, p, arrivals[i], parts[i]);
-        if c < best {
-            best = c;
-        }
-        i = i + 1;
-    }
-    best
-}
-
-// The same from the point whose distances, two bytes to each point, `here` begins with.
-fn through_part(here: &[u8], load: u64, q: u16, part: u64) -> u64
-    requires { ⌜ PartDoor (now here) load q part ⌝ }
-    ensures { λ r. ⌜ r ≡ throughPart (now (here .entry)) load q part ⌝ }
-{
-    view::u16_at(here, q as usize * 2) as u64 * load + part
-}
-
-// The leasts from two points.
-struct Two {
-    first: u64,
-    second: u64,
-}
-
-// The lesser of two costs.
-fn lesser(a: u64, b: u64) -> u64
-    ensures { λ r. ⌜ r ≡ min a b ⌝ }
-{
-    if b < a { b } else { a }
-}
-
-// The leasts with one more door, from the points whose distances `here` and `there` begin with.
-fn lowered(leasts: Two, here: &[u8], there: &[u8], load: u64, q: u16, part: u64) -> Two
-    requires { ⌜ PartDoor (now here) load q part × PartDoor (now there) load q part ⌝ }
-    ensures first { λ r. ⌜ r .first ≡ min (leasts .first) (throughPart (now (here .entry)) load q part) ⌝ }
-    ensures second { λ r. ⌜ r .second ≡ min (leasts .second) (throughPart (now (there .entry)) load q part) ⌝ }
-{
-    let c = through_part(here, load, q, part);
-    let d = through_part(there, load, q, part);
-    Two {
-        first: lesser(leasts.first, c),
-        second: lesser(leasts.second, d),
+    let mut p: usize = 0;
+    while p < leasts.len() {
+        let least = lowered(leasts[p], first[p], load, first_part);
+        leasts[p] = lowered(least, second[p], load, second_part);
+        p = p + 1;
     }
 }
 
-// The least over the gathered doors from points p and q at once, so that what is known of each door is read once for both. Two doors are done at a time, and a last odd
-// one by itself.
-fn least_two(s: &[u8], v: View, load: u64, arrivals: &[u16], parts: &[u64], p: u16, q: u16) -> Two
-    requires { ⌜ Gathered (now s) v load (now arrivals) (now parts) × (p < decode (now s) .points) × (q < decode (now s) .points) ⌝ }
-    ensures first { λ r. ⌜ r .first ≡ leastFrom (decode (now (s .entry))) load (now (arrivals .entry)) (now (parts .entry)) p ⌝ }
-    ensures second { λ r. ⌜ r .second ≡ leastFrom (decode (now (s .entry))) load (now (arrivals .entry)) (now (parts .entry)) q ⌝ }
+// Writes the numbers that stand in the floats.
+fn settle(leasts: &[f64], out: &mut [u64])
+    requires { ⌜ (length (now leasts) ≡ length (now out)) × ((f : ℕ → ℕ) × Held f (length (now out)) (now leasts)) ⌝ }
+    ensures { λ _. ⌜ ((f : ℕ → ℕ) → Held f (length (now (out .entry))) (now (leasts .entry)) → now (out .exit) ≡ mapBelow (length (now (out .entry))) f) ⌝ }
 {
-    let from_p = view::distances_at(s, v, p);
-    let from_q = view::distances_at(s, v, q);
-    let here = &s[from_p..];
-    let there = &s[from_q..];
+    let mut p: usize = 0;
+    while p < out.len() {
+        out[p] = minimum::number_of(leasts[p]);
+        p = p + 1;
+    }
+}
+
+// Writes the row, whatever distances the columns are of: the least from each point, two doors after two. The last of an odd number of doors is taken twice, which changes no least.
+pub fn row(columns: &[u64], load: u32, arrivals: &[u16], parts: &[u64], out: &mut [u64])
+    requires { ⌜ ((distance : ℕ → ℕ → ℕ) × Rowable distance (now columns) (length (now out)) load (now arrivals) (now parts)) ⌝ }
+    ensures { λ _. ⌜ ((distance : ℕ → ℕ → ℕ) → Columns distance (length (now (out .entry))) (now (columns .entry)) → now (out .exit) ≡ mapBelow (length (now (out .entry))) (leastFrom distance load (now (arrivals .entry)) (now (parts .entry)))) ⌝ }
+{
+    let points = out.len();
     let m = parts.len();
-    let even = m - m % 2;
-    let mut leasts = Two {
-        first: LARGEST,
-        second: LARGEST,
-    };
+    let mut leasts = [minimum::float_of(NO_COST); MAX_POINTS];
     let mut i: usize = 0;
-    while i < even {
-        leasts = lowered(leasts, here, there, load, arrivals[i], parts[i]);
-        leasts = lowered(leasts, here, there, load, arrivals[i + 1], parts[i + 1]);
+    while i < m {
+        let j = if i + 1 < m { i + 1 } else { i };
+        let a = arrivals[i] as usize * points;
+        let b = arrivals[j] as usize * points;
+        let c = a + points;
+        let d = b + points;
+        lower(
+            &columns[a..c],
+            &columns[b..d],
+            load,
+            parts[i],
+            parts[j],
+            &mut leasts[..points],
+        );
         i = i + 2;
     }
-    if i < m {
-        leasts = lowered(leasts, here, there, load, arrivals[i], parts[i]);
-    }
-    leasts
-}
-
-// Writes the row of P cells: the least from each point, two points at a time and the last by itself where they are odd.
-pub fn row(s: &[u8], v: View, load: u64, arrivals: &[u16], parts: &[u64], out: &mut [u64])
-    requires { ⌜ Gathered (now s) v load (now arrivals) (now parts) × (length (now out) ≡ decode (now s) .points) ⌝ }
-    ensures { λ _. ⌜ now (out .exit) ≡ mapBelow (decode (now (s .entry)) .points) (leastFrom (decode (now (s .entry))) load (now (arrivals .entry)) (now (parts .entry))) ⌝ }
-{
-    let mut p: u16 = 0;
-    while 1 < v.points - p {
-        let two = least_two(s, v, load, arrivals, parts, p, p + 1);
-        out[p as usize] = two.first;
-        out[p as usize + 1] = two.second;
-        p = p + 2;
-    }
-    if p < v.points {
-        out[p as usize] = least(s, v, load, arrivals, parts, p);
-    }
+    settle(&leasts[..points], out);
 }

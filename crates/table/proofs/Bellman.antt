@@ -9,6 +9,7 @@ use Rattle.model.proofs.Tools.Positions.{map-at}
 use Rattle.model.proofs.TaskLists.Masks.{bit-le, without-is, size-zero}
 use Rattle.model.proofs.Theory.FirstTask.{first-bit, allow-without}
 use Rattle.model.proofs.Theory.Driving.{throughDoor, to-go-by-first, first-door, through-small}
+use Rattle.model.proofs.Theory.Bounds.{fieldLimits, kind1Limits, kind1-within}
 use mathlib.Core.Bool.{false≢true, or-true}
 use lib.Arith.{digits-lt}
 use Rattle.view.specs.declared.View.{View}
@@ -30,7 +31,7 @@ parts S K cells rows = map (partOf S K cells rows 1) (firstDoors S K)
 
 -- from point p through the i-th of these doors
 abbrev pub throughNth : Sheet → ℕ → List ℕ → List ℕ → ℕ → ℕ → ℕ
-throughNth S K cells rows p i = throughGathered S (natAbs (load S K)) (arrivals S K) (parts S K cells rows) p i
+throughNth S K cells rows p i = throughGathered (S .distance) (natAbs (load S K)) (arrivals S K) (parts S K cells rows) p i
 
 -- ---- an essential list
 
@@ -108,7 +109,7 @@ module _ {b : List ℕ} {v : View} {K : ℕ} {cells rows : List ℕ} (O : OpenLi
 
   -- the way to the door and its part are the door and the cost to go from where it leads
   door-is : (p d : ℕ) → d < decode b .doors → isFirst (decode b) K d ≡ true
-      → throughPoint (decode b) (natAbs (load (decode b) K)) p (decode b .arrive d) (partOf (decode b) K cells rows 1 d) ≡ throughDoor (decode b) K p d
+      → throughPoint (decode b .distance) (natAbs (load (decode b) K)) p (decode b .arrive d) (partOf (decode b) K cells rows 1 d) ≡ throughDoor (decode b) K p d
   unfolding throughPoint partWith partOf throughDoor stepCost
   door-is p d l e = rw (O .rests .shows d l e) (omega arith)
 
@@ -129,6 +130,11 @@ module _ {b : List ℕ} {v : View} {K : ℕ} {cells rows : List ℕ} (O : OpenLi
     fits = λ d l e. omega (arith, part-le 0 d l e, sum-small 0 d l e);
   }
 
+  -- the load has 32 bits
+  pub load-small : natAbs (load (decode b) K) < 2 ^ 32
+  unfolding kind1Limits fieldLimits
+  load-small = omega (arith, kind1-within b (O .bytes) (O .sheet .counts) .load K)
+
   pub through-is : (p i : ℕ) → i < length (firstDoors (decode b) K)
       → throughNth (decode b) K cells rows p i ≡ throughDoor (decode b) K p (getD (firstDoors (decode b) K) i 0)
   unfolding throughGathered
@@ -137,9 +143,8 @@ module _ {b : List ℕ} {v : View} {K : ℕ} {cells rows : List ℕ} (O : OpenLi
       rw (map-at (decode b .arrive) (firstDoors (decode b) K) i l, map-at (partOf (decode b) K cells rows 1) (firstDoors (decode b) K) i l)
       (door-is p (getD (firstDoors (decode b) K) i 0) (d .0) (d .1))
 
-  pub gathered : Gathered b v (natAbs (load (decode b) K)) (arrivals (decode b) K) (parts (decode b) K cells rows)
+  pub gathered : Gathered (decode b .distance) (decode b .points) (natAbs (load (decode b) K)) (arrivals (decode b) K) (parts (decode b) K cells rows)
   gathered = record {
-    view = O .sheet .view;
     same = simp length-map;
     arrival = λ i l.
         let m : i < length (firstDoors (decode b) K) = rw length-map at l in
@@ -160,7 +165,7 @@ module _ {b : List ℕ} {v : View} {K : ℕ} {cells rows : List ℕ} (O : OpenLi
       omega (arith, first-place (decode b) K (f .door) (f .in-sheet) (f .can) .1)
 
   pub row-is : (p : ℕ) → p < decode b .points
-      → leastFrom (decode b) (natAbs (load (decode b) K)) (arrivals (decode b) K) (parts (decode b) K cells rows) p ≡ costToGo (decode b) K p
+      → leastFrom (decode b .distance) (natAbs (load (decode b) K)) (arrivals (decode b) K) (parts (decode b) K cells rows) p ≡ costToGo (decode b) K p
   unfolding leastFrom
   row-is p point =
       let k = essential-size (decode b) K (O .list) (O .ess) in

@@ -6,7 +6,7 @@ use Rattle.model.proofs.Basics.{le-leb, mul-le-mul-right, pow-pos}
 use Rattle.model.specs.{mapBelow, essential, pairsAllow, costToGo, overwrite, overwriteAt, cellAfter, cellsAfter, decode, InRange}
 use Rattle.model.specs.Sheet.{Sheet}
 use Rattle.model.proofs.Tools.Tests.{tested, same-test, or-neither}
-use Rattle.model.proofs.Tools.Folds.{length-mapBelow, mapBelow-at}
+use Rattle.model.proofs.Tools.Folds.{length-mapBelow, mapBelow-at, mapBelow-cong}
 use Rattle.model.proofs.Theory.Completions.{to-go-none}
 use Rattle.model.proofs.Bytes.Overwriting.{length-over, over-front}
 use mathlib.Core.Bool.{and-false, or-true}
@@ -17,7 +17,6 @@ use Rattle.model.proofs.Calls.{Reading.Reads, Reading.counts-read, Reading.load
 use Rattle.view.specs.declared.View.{View}
 use Rattle.view.specs.Views.{Viewed}
 use Rattle.table.specs.Cells.{cellBelow, cellsBelow, Shown, Fillable}
-use Rattle.table.proofs.Parts.{map-cong-below}
 
 -- a sheet that reads can be filled
 pub fillable : {b : List ℕ} {v : View} → Reads b → Viewed b v → Fillable b v
@@ -186,7 +185,7 @@ module _ (S : Sheet) (cells : List ℕ) where
       ap (λ (m : ℕ). row ++ drop m cells) (e ∙ sym w)
       ∙ sym (over-front row cells (rw w room))
       ∙ ap₂ (λ (a : ℕ) (l : List ℕ). overwriteAt a row l) (sym (zero-mul (S .points))) (sym (none-done S cells))
-      ∙ row-done S cells 0 some (omega arith) refl row (h ∙ map-cong-below (S .points) _ _ (λ p l. sym (to-go-none S R p)))
+      ∙ row-done S cells 0 some (omega arith) refl row (h ∙ mapBelow-cong (S .points) _ _ (λ p l. sym (to-go-none S R p)))
 
   -- there is room for the first row
   pub first-held : 2 ^ S .tasks * S .points ≤ length cells → S .points ≤ length cells

@@ -4,14 +4,16 @@ use Rattle.model.proofs.Basics.{_≡_, sym, ap, _∙_, List, map, true, ℕ, _^
 use Rattle.model.proofs.Basics.{pos, natAbs}
 use Rattle.model.specs.{mapBelow, overwrite, essential, load, costToGo, firstDoors, maxDoors, decode}
 use Rattle.model.specs.Sheet.{Sheet}
+use Rattle.model.proofs.Tools.Folds.{mapBelow-cong}
+use Rattle.model.proofs.Bytes.Widths.{widths}
 use lib.Signed.{nonNeg}
 use Rattle.view.specs.declared.View.{View}
 use Rattle.view.proofs.Counted.{points-are}
 use Rattle.gather.specs.Gathering.{partOf, Gatherable}
-use Rattle.row.specs.Leasts.{leastFrom, Gathered}
+use Rattle.row.specs.Leasts.{leastFrom, Columns, Gathered, Rowable}
 use Rattle.table.specs.Cells.{restRows, Fillable}
-use Rattle.table.proofs.Parts.{front-is, front-there, map-cong-below}
-use Rattle.table.proofs.Bellman.{arrivals, parts, OpenList, gatherable, gathered, row-is}
+use Rattle.table.proofs.Parts.{front-is, front-there}
+use Rattle.table.proofs.Bellman.{arrivals, parts, OpenList, gatherable, gathered, load-small, row-is}
 
 -- ---- an array with a list in front
 
@@ -67,11 +69,28 @@ module _ {b : List ℕ} {v : View} {K : ℕ} {cells rows : List ℕ} (O : OpenLi
     }
 
   module _ {w m : ℕ} {doors arrives costs : List ℕ} (h : Holding (decode b) K cells rows w m doors arrives costs) where
-    -- that is what a row asks
-    pub given : Gathered b v w (take m arrives) (take m costs)
+    pub narrow : w < 2 ^ 32
+    narrow = rw (h .load-is) (load-small O)
+
+    -- that is what a cost through the doors asks
+    pub given : Gathered (decode b .distance) (decode b .points) w (take m arrives) (take m costs)
     given = rw (h .load-is, h .arrival .is, h .part .is) (gathered O)
 
-    -- and the row is that of the costs to go
-    pub row-of : {row : List ℕ} → row ≡ mapBelow (decode b .points) (leastFrom (decode b) w (take m arrives) (take m costs))
-        → row ≡ mapBelow (decode b .points) (costToGo (decode b) K)
-    row-of e = e ∙ map-cong-below (decode b .points) _ _ (λ p l. rw (h .load-is, h .arrival .is, h .part .is) (row-is O p l))
+    -- and, with the columns, what a row of n cells does
+    module _ {columns : List ℕ} (C : Columns (decode b .distance) (decode b .points) columns) {n : ℕ} (e : n ≡ decode b .points) where
+      pub row-asks : (distance : ℕ → ℕ → ℕ) × Rowable distance columns n w (take m arrives) (take m costs)
+      row-asks = (
+        decode b .distance,
+        rw e (record {
+          point = O .sheet .counts .one-point;
+          few = O .sheet .counts .points;
+          wide = λ p q l k. omega (arith, widths b (O .bytes) .distance p q);
+          columned = C;
+          gathered = given;
+        }),
+      )
+
+      -- whose cells are the costs to go
+      pub row-of : {row : List ℕ} → ((distance : ℕ → ℕ → ℕ) → Columns distance n columns → row ≡ mapBelow n (leastFrom distance w (take m arrives) (take m costs)))
+          → row ≡ mapBelow (decode b .points) (costToGo (decode b) K)
+      row-of f = f (decode b .distance) (rw e C) ∙ rw e (mapBelow-cong (decode b .points) _ _ (λ p l. rw (h .load-is, h .arrival .is, h .part .is) (row-is O p l)))

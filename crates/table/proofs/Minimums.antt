@@ -3,19 +3,16 @@ use Rattle.model.proofs.Basics.{_≡_, refl, sym, ap, ap₂, _∙_, List, [], _
 use Rattle.model.proofs.Basics.{length-map}
 use Rattle.model.specs.{least}
 use Rattle.model.proofs.Tools.Positions.{map-at}
-use Rattle.row.specs.Leasts.{largest, leastBelow}
-
-pub least-cong : (n : ℕ) (f g : ℕ → ℕ) → ((i : ℕ) → i < n → f i ≡ g i) → leastBelow n f ≡ leastBelow n g
-least-cong zero f g h = refl
-least-cong (suc n) f g h = ap₂ min (least-cong n f g (λ i l. h i (omega arith))) (h n (omega arith))
+use Rattle.row.specs.Leasts.{noCost, leastBelow}
+use Rattle.row.proofs.Passes.{least-cong}
 
 -- the first apart from the others
 least-first : (n : ℕ) (f : ℕ → ℕ) → leastBelow (suc n) f ≡ min (f 0) (leastBelow n (λ i. f (suc i)))
 least-first zero f = omega arith
 least-first (suc n) f = omega (arith, least-first n f)
 
--- of a list that is not empty, and of numbers of 64 bits
-pub least-below : (xs : List ℕ) → 0 < length xs → ((i : ℕ) → i < length xs → getD xs i 0 ≤ largest) → leastBelow (length xs) (λ i. getD xs i 0) ≡ least xs
+-- of a list that is not empty, and of numbers that are no more than what stands for none
+pub least-below : (xs : List ℕ) → 0 < length xs → ((i : ℕ) → i < length xs → getD xs i 0 ≤ noCost) → leastBelow (length xs) (λ i. getD xs i 0) ≡ least xs
 least-below [] some h = absurd (omega arith)
 least-below (x ∷ []) some h = omega (arith, h 0 (omega arith))
 least-below (x ∷ y ∷ ys) some h = least-first (length (y ∷ ys)) (λ i. getD (x ∷ y ∷ ys) i 0)
@@ -23,7 +20,7 @@ least-below (x ∷ y ∷ ys) some h = least-first (length (y ∷ ys)) (λ i. get
 
 -- the same where f i is g of the i-th element
 pub least-mapped : (f g : ℕ → ℕ) (xs : List ℕ) → 0 < length xs → ((i : ℕ) → i < length xs → f i ≡ g (getD xs i 0))
-    → ((i : ℕ) → i < length xs → g (getD xs i 0) ≤ largest) → leastBelow (length xs) f ≡ least (map g xs)
+    → ((i : ℕ) → i < length xs → g (getD xs i 0) ≤ noCost) → leastBelow (length xs) f ≡ least (map g xs)
 least-mapped f g xs some same small =
     let e : length (map g xs) ≡ length xs = length-map xs g in
     least-cong (length xs) f (λ i. getD (map g xs) i 0) (λ i l. same i l ∙ sym (map-at g xs i l))

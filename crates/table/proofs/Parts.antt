@@ -1,8 +1,8 @@
 -- Parts of arrays and of the cells: what stands at the front of an array after it was written there, and a row written in the midst. Assumes nothing.
-use Rattle.model.proofs.Basics.{_≡_, sym, ap, List, [], _∷_, append-assoc, ℕ, _+_, _-_, _≤_, _<_, arith, length, take, drop}
+use Rattle.model.proofs.Basics.{_≡_, sym, List, append-assoc, ℕ, _+_, _-_, _≤_, _<_, arith, length, take, drop}
 use Rattle.model.proofs.Basics.{length-append, length-take, take-append-seam, le-leb}
 use Rattle.model.specs.{mapBelow, overwrite, overwriteAt}
-use Rattle.model.proofs.Tools.Folds.{flat-cong, length-mapBelow}
+use Rattle.model.proofs.Tools.Folds.{length-mapBelow}
 use lib.ListN.{length-drop}
 use lib.Seq.{drop-drop}
 use borrow.Rule.Slice.PartMut.{putMid}
@@ -19,10 +19,6 @@ module _ (xs buf : List ℕ) {new : List ℕ} {m : ℕ} (h : new ≡ overwrite x
   front-there = rw (h, n, length-append) (omega arith)
 
 -- ---- a row in the midst of the cells
-
-pub map-cong-below : (n : ℕ) (f g : ℕ → ℕ) → ((i : ℕ) → i < n → f i ≡ g i) → mapBelow n f ≡ mapBelow n g
-unfolding mapBelow
-map-cong-below n f g h = flat-cong n _ _ (λ i l. ap (λ (x : ℕ). x ∷ []) (h i l))
 
 -- the row of P cells at a place, as the code takes it: from there, n cells
 module _ (at P : ℕ) (cells : List ℕ) (room : at + P ≤ length cells) {from n : ℕ} (q : from ≡ at) (e : n ≡ P) where

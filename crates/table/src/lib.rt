@@ -10,7 +10,9 @@ ghost use Rattle.model.specs.Orders.{essential};
 ghost use Rattle.model.specs.Plans.{costToGo};
 ghost use Rattle.model.specs.Planning.{cellsNeeded, cellsAfter};
 ghost use Rattle.view.specs.Views.{Viewed};
+ghost use Rattle.row.specs.Leasts.{Columns};
 ghost use Rattle.table.specs.Cells.{restRows, Shown, Fillable};
+use columns::MAX_DISTANCES;
 use view::MAX_DOORS;
 use view::MAX_TASKS;
 use view::View;
@@ -41,9 +43,9 @@ pub fn end_row(s: &[u8], v: View, out: &mut [u64])
     }
 }
 
-// Writes the row of the essential list k, from cells that show the lists below it.
-fn list_row(s: &[u8], v: View, k: u32, cells: &mut [u64])
-    requires { ⌜ Fillable (now s) v × (k < 2 ^ decode (now s) .tasks) × (essential (decode (now s)) k ≡ true) × Shown (decode (now s)) k (now cells) × ((k + 1) * decode (now s) .points ≤ length (now cells)) ⌝ }
+// Writes the row of the essential list k, from the columns of the distances and cells that show the lists below it.
+fn list_row(s: &[u8], v: View, columns: &[u64], k: u32, cells: &mut [u64])
+    requires { ⌜ Fillable (now s) v × Columns (decode (now s) .distance) (decode (now s) .points) (now columns) × (k < 2 ^ decode (now s) .tasks) × (essential (decode (now s)) k ≡ true) × Shown (decode (now s)) k (now cells) × ((k + 1) * decode (now s) .points ≤ length (now cells)) ⌝ }
     ensures { λ _. ⌜ now (cells .exit) ≡ overwriteAt (k * decode (now (s .entry)) .points) (mapBelow (decode (now (s .entry)) .points) (costToGo (decode (now (s .entry))) k)) (now (cells .entry)) ⌝ }
 {
     let load = cost::load(s, v, k);
@@ -65,9 +67,8 @@ fn list_row(s: &[u8], v: View, k: u32, cells: &mut [u64])
     let from = k as usize * v.points as usize;
     let end = from + v.points as usize;
     row::row(
-        s,
-        v,
-        load,
+        columns,
+        load as u32,
         &arrivals[..m],
         &parts[..m],
         &mut cells[from..end],
@@ -81,11 +82,13 @@ pub fn fill(s: &[u8], v: View, cells: &mut [u64])
 {
     let points = v.points as usize;
     end_row(s, v, &mut cells[..points]);
+    let mut columns = [0u64; MAX_DISTANCES];
+    columns::fill(s, v, &mut columns);
     let lists = tasklist::lists(v.tasks);
     let mut k: u32 = 1;
     while k < lists {
         if essential::essential(s, v, k) {
-            list_row(s, v, k, cells);
+            list_row(s, v, &columns, k, cells);
         }
         k = k + 1;
     }

@@ -1,11 +1,11 @@
 -- The head lies within a sheet that is viewed, and so do the distances, counted by row and column. Assumes nothing.
-use Rattle.model.proofs.Basics.{_≡_, sym, ap, List, ℕ, _+_, _*_, _≤_, _<_, add-zero, arith, lit<, length}
+use Rattle.model.proofs.Basics.{_≡_, List, ℕ, _+_, _*_, _≤_, _<_, add-zero, arith, lit<, length}
 use Rattle.model.specs.{numberAt, distancesBody, lineAt, decodeBy, decode}
 use lib.Arith.{digits-lt}
 use Rattle.view.proofs.Fields.{within, field-is}
 use Rattle.view.proofs.Counted.{points-are}
 use Rattle.view.specs.declared.View.{View}
-use Rattle.view.specs.Views.{distancesAt, Viewed}
+use Rattle.view.specs.Views.{Viewed}
 
 pub head-within : {b : List ℕ} {v : View} → Viewed b v → 46 ≤ length b
 unfolding lineAt
@@ -22,14 +22,3 @@ module _ {b : List ℕ} {v : View} (h : Viewed b v) (p q : ℕ) (lp : p < decode
   pub distance-is : (r : ℕ) → r ≡ numberAt 2 b (v .at .distances + (p * v .points + q) * 2) → r ≡ decode b .distance p q
   unfolding decodeBy decode
   distance-is r e = field-is h distancesBody 0 _ (lit< tt) (rw add-zero (rw (points-are h) at e))
-
-  -- counted from where the distances from p begin
-  place-is : v .at .distances + (p * v .points + q) * 2 ≡ distancesAt v p + q * 2
-  unfolding distancesAt
-  place-is = omega arith
-
-  pub row-within : distancesAt v p + q * 2 + 2 ≤ length b
-  row-within = rw (← place-is) distance-within
-
-  pub row-is : numberAt 2 b (distancesAt v p + q * 2) ≡ decode b .distance p q
-  row-is = distance-is _ (ap (numberAt 2 b) (sym place-is))

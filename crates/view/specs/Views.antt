@@ -1,7 +1,7 @@
 -- A view of a sheet: its counts and the places of its bodies (01, Layout of a task sheet). Assumes nothing.
 use mathlib.Core.Path.{_≡_}
 use mathlib.Core.List.{List}
-use Prim.Native.Nat.{ℕ, _+_, _*_}
+use Prim.Native.Nat.{ℕ, _*_}
 use lib.ListN.{length}
 use Rattle.model.specs.SheetLayout.{doorsBody, startsBody, pairsBody, rulesBody, pointsBody, distancesBody, bodies, entries, bodyAt, layoutOf, decode}
 use Rattle.view.specs.declared.Places.{Places}
@@ -29,10 +29,6 @@ viewOf b = record {
   points = decode b .points;
   at = placesOf b;
 }
-
--- where the distances from point p begin, of two bytes each
-unfoldable pub distancesAt : View → ℕ → ℕ
-distancesAt v p = v .at .distances + p * v .points * 2
 
 -- what reading over a view asks: v is the view of the sheet b, and the layout holds: there are P times P distances, as 12 has tested, and the sheet ends
 -- with its last body, as 13 has

@@ -5,7 +5,7 @@ ghost use Prim.Native.Nat.{_+_, _*_, _≤_, _<_};
 ghost use lib.ListN.{length};
 ghost use Rattle.model.specs.Bytes.{numberAt};
 ghost use Rattle.model.specs.SheetLayout.{decode};
-ghost use Rattle.view.specs.Views.{viewOf, distancesAt, Viewed};
+ghost use Rattle.view.specs.Views.{viewOf, Viewed};
 use head::DOORS_BODY;
 use head::PAIRS_BODY;
 use head::POINTS_BODY;
@@ -103,7 +103,7 @@ impl View {
 }
 
 // The number of two bytes, or of four, from byte i on, all within the bytes.
-pub fn u16_at(s: &[u8], i: usize) -> u16
+fn u16_at(s: &[u8], i: usize) -> u16
     requires { ⌜ i + 2 ≤ length (now s) ⌝ }
     ensures { λ r. ⌜ r ≡ numberAt 2 (now (s .entry)) i ⌝ }
 {
@@ -251,12 +251,4 @@ pub fn distance(s: &[u8], v: View, p: u16, q: u16) -> u32
     let at = v.at.distances as usize;
     let e = p as usize * v.points as usize + q as usize;
     u16_at(s, at + e * DISTANCE_BYTES as usize) as u32
-}
-
-// Where the distances from point p begin, two bytes for each point to go to.
-pub fn distances_at(s: &[u8], v: View, p: u16) -> usize
-    requires { ⌜ Viewed (now s) v × (p < decode (now s) .points) ⌝ }
-    ensures { λ r. ⌜ r ≡ distancesAt v p ⌝ }
-{
-    v.at.distances as usize + p as usize * v.points as usize * DISTANCE_BYTES as usize
 }

@@ -1,13 +1,12 @@
 -- None of the gathered doors before place i has that cost, so where one has it, or all are passed, i is the first place. Assumes nothing.
 use Rattle.model.proofs.Basics.{_-_, length, needs}
 use Rattle.model.specs.{decode}
-use Rattle.row.proofs.Running.{gathered-door}
-use Rattle.complete.proofs.Finding.{PassedOver, none-passed, pass-one, pass-here, pass-none}
+use Rattle.complete.proofs.Finding.{gathered-fits, PassedOver, none-passed, pass-one, pass-here, pass-none}
 use Rattle.complete.proofs.first_at_cost.Statement.{statement}
 use Rattle.complete.proofs.first_at_cost.Tie as tie
 
 abbrev Inv-loop : tie.InvT-loop
-Inv-loop s v load arrivals parts p cost i₀ i = PassedOver (decode s) load arrivals parts p cost i
+Inv-loop s v load arrivals parts p cost i₀ i = PassedOver (decode s .distance) load arrivals parts p cost i
 
 abbrev μ-loop : tie.MeasureT-loop
 μ-loop s v load arrivals parts p cost i₀ i = length parts - i
@@ -18,7 +17,8 @@ loop-holds c = none-passed _ _ _ _ _ _
 through-requires : tie.Need-through-requires Inv-loop μ-loop
 through-requires c κs =
     let p = c .before .before .before .before .before .before .before .pre in
-    gathered-door (p .0) _ _ (p .1) (c .before .before .loop-test .taken)
+    let l = c .before .before .loop-test .taken in
+    (p .0, p .2, p .1 .arrival _ l, gathered-fits (p .1) _ _ (p .2) l)
 
 -- the cost was found
 returns : tie.Need-returns Inv-loop μ-loop

@@ -64,7 +64,7 @@ slice-aggregate-first-at-cost-2 c = sym (length-take-le _ _ (holds (c .before .b
 first-at-cost-requires : tie.Need-first-at-cost-requires
 first-at-cost-requires c κs =
     let g = c .before .before .before .before .before .before .before in
-    (given (is-open (begun (g .before))) (holds g), entered g .pre .0 .point)
+    (entered g .pre .0 .sheet .view, given (is-open (begun (g .before))) (holds g), entered g .pre .0 .point)
 
 -- the place found is one of the array
 place-in : (c : tie.After-first-at-cost) → c .first-at-cost .result < maxDoors

@@ -6,7 +6,7 @@ use Rattle.model.proofs.Tools.Elements.{are-bytes}
 use Rattle.view.proofs.Counted.{points-are}
 use Rattle.table.proofs.Parts.{row-ends, row-length, row-written}
 use Rattle.table.proofs.Bellman.{essential-size, OpenList}
-use Rattle.table.proofs.ListRows.{Holding, load-asks, gather-asks, hold, given, row-of}
+use Rattle.table.proofs.ListRows.{Holding, load-asks, gather-asks, hold, narrow, row-asks, row-of}
 use Rattle.rank.specs.Ranks.{rank, rankRows}
 use Rattle.rank.proofs.Counting.{rank-of}
 use Rattle.layers.specs.Layers.{withRow}
@@ -17,7 +17,7 @@ use Rattle.layers.proofs.list_row.Tie as tie
 -- ---- places of the code, and what is known there
 
 abbrev entered : tie.After-rows → tie.Start
-entered c = c .before .before .before .before .before
+entered c = c .before .before .before .before .before .before
 
 abbrev begun : tie.After-parts → tie.After-rows
 begun c = c .before .before .before .before .before
@@ -27,13 +27,13 @@ gathered c = c .before .before .before .before
 
 -- the row is among the cells, and begins where the code has it
 room : (c : tie.Start) → let S = decode (c .args .s .now) in rank (S .tasks) (c .args .k) * S .points + S .points ≤ length (c .args .here .now)
-room c = omega (arith, row-room (decode (c .args .s .now)) (c .args .here .now) (c .args .k) (c .pre .2) (c .pre .0 .room-here))
+room c = omega (arith, row-room (decode (c .args .s .now)) (c .args .here .now) (c .args .k) (c .pre .3) (c .pre .0 .room-here))
 
 own-is : (c : tie.After-rows) → let S = decode (entered c .args .s .now) in c .rows .result .own ≡ rank (S .tasks) (entered c .args .k) * S .points
 own-is c =
     let s = entered c in
     let f = s .pre .0 .sheet in
-    c .rows .ensures .0 ∙ ap₂ _*_ (rank-of _ (s .args .k) (omega (arith, f .counts .tasks)) (s .pre .2)) (points-are (f .view))
+    c .rows .ensures .0 ∙ ap₂ _*_ (rank-of _ (s .args .k) (omega (arith, f .counts .tasks)) (s .pre .3)) (points-are (f .view))
 
 held : (c : tie.After-rows) → let a = entered c .args in c .rows .result .own + a .v .points ≤ length (a .here .now)
 held c = let s = entered c in row-ends _ _ (s .args .here .now) (room s) (own-is c) (points-are (s .pre .0 .sheet .view))
@@ -48,13 +48,13 @@ is-open c =
     let a = entered c .args in
     let p = entered c .pre in
     let f = p .0 .sheet in
-    let m = essential-size (decode (a .s .now)) (a .k) (p .2) (p .3) in
+    let m = essential-size (decode (a .s .now)) (a .k) (p .3) (p .4) in
     record {
       sheet = f;
-      bytes = are-bytes (a .s .now) (c .before .before .before .before .shared-slice-known .given);
-      list = p .2;
-      ess = p .3;
-      rests = rests-stand (a .k) _ (f .plannable .ranges) (f .counts .tasks) (p .2) (p .3) (omega (arith, m .1)) (p .0 .room-below) (p .4);
+      bytes = are-bytes (a .s .now) (c .before .before .before .before .before .shared-slice-known .given);
+      list = p .3;
+      ess = p .4;
+      rests = rests-stand (a .k) _ (f .plannable .ranges) (f .counts .tasks) (p .3) (p .4) (omega (arith, m .1)) (p .0 .room-below) (p .5);
     }
 
 rests-are : (c : tie.After-rows) → let a = entered c .args in c .rows .result .rests ≡ rankRows (decode (a .s .now) .points) (a .k)
@@ -73,7 +73,7 @@ holds c = let r = begun (c .before) in hold (is-open r) (rests-are r) _ _ _ (r .
 -- ---- the needs
 
 load-requires : tie.Need-load-requires
-load-requires c κs = let p = c .before .before .before .pre in (p .0 .sheet .view, load-asks (p .0 .sheet) (p .2) (p .3))
+load-requires c κs = let p = c .before .before .before .before .pre in (p .0 .sheet .view, load-asks (p .0 .sheet) (p .3) (p .4))
 
 gather-requires : tie.Need-gather-requires
 gather-requires c κs = gather-asks (is-open (begun c)) (rests-are (begun c))
@@ -83,6 +83,9 @@ add-end c =
     let r = begun (gathered c .before) in
     let h : r .rows .result .own + entered r .args .v .points < 2 ^ 64 = omega (arith, small r) in
     record { fits = h }
+
+cast-row : tie.Need-cast-row
+cast-row c = omega (arith, narrow (is-open (begun (gathered c .before))) (holds (gathered c)))
 
 array-share-prefix-arrivals : tie.Need-array-share-prefix-arrivals
 array-share-prefix-arrivals c = holds (gathered c) .arrival .fits
@@ -110,7 +113,7 @@ row-requires c κs =
     let g = gathered (c .before .before .before) in
     let r = begun (g .before) in
     let s = entered r in
-    (given (is-open r) (holds g), row-length _ _ _ (room s) (own-is r) (points-are (s .pre .0 .sheet .view)))
+    row-asks (is-open r) (holds g) (s .pre .1) (row-length _ _ _ (room s) (own-is r) (points-are (s .pre .0 .sheet .view)))
 
 returns : tie.Need-returns
 unfolding withRow
@@ -119,10 +122,10 @@ returns c =
     let r = begun (g .before) in
     let s = entered r in
     row-written _ _ _ (room s) (own-is r) (points-are (s .pre .0 .sheet .view)) (costToGo (decode (s .args .s .now)) (s .args .k))
-    (row-of (is-open r) (holds g) (c .before .before .row .ensures))
+    (row-of (is-open r) (holds g) (s .pre .1) (row-length _ _ _ (room s) (own-is r) (points-are (s .pre .0 .sheet .view))) (c .before .before .row .ensures))
 
 pub list-row-spec : {M : Type 1} → statement M
-list-row-spec = tie.close (tie.spec load-requires (λ c κs. c .before .before .before .before .pre .1) (λ c. search needs) (λ c. search needs)
-    (λ c. search needs) (λ c. search needs) gather-requires (λ c. search needs) add-end array-share-prefix-arrivals slice-aggregate-row
+list-row-spec = tie.close (tie.spec load-requires (λ c κs. c .before .before .before .before .before .pre .2) (λ c. search needs) (λ c. search needs)
+    (λ c. search needs) (λ c. search needs) gather-requires (λ c. search needs) add-end cast-row array-share-prefix-arrivals slice-aggregate-row
     array-share-prefix-parts slice-aggregate-row-2 mul-row (λ c. search needs) (λ c. search needs) part-row-end row-requires
     (λ c. search needs) returns)

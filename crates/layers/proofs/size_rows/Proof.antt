@@ -10,27 +10,27 @@ use Rattle.layers.proofs.size_rows.Statement.{statement}
 use Rattle.layers.proofs.size_rows.Tie as tie
 
 abbrev Inv-loop : tie.InvT-loop
-Inv-loop s v table m below here₀ lists k₀ here k = Filling (decode s) m here₀ lists here k
+Inv-loop s v columns table m below here₀ lists k₀ here k = Filling (decode s) m here₀ lists here k
 
 abbrev μ-loop : tie.MeasureT-loop
-μ-loop s v table m below here₀ lists k₀ here k = lists - k
+μ-loop s v columns table m below here₀ lists k₀ here k = lists - k
 
 -- ---- places of the code, and what is known there
 
 abbrev entered : tie.After-full Inv-loop μ-loop → tie.Start Inv-loop μ-loop
-entered c = c .before .before .before .before .before
+entered c = c .before .before .before .before .before .before
 
 all-lists : (c : tie.After-full Inv-loop μ-loop) → c .before .lists .result ≡ 2 ^ decode (entered c .args .s .now) .tasks
 all-lists c =
     let f = entered c .pre .0 .sheet in c .before .lists .ensures ∙ ap listsOf (tasks-are (f .view)) ∙ lists-of _ (tasks-listed _ (f .counts .tasks))
 
 first-list : (c : tie.After-full Inv-loop μ-loop) → c .full .result ≡ full (entered c .args .m)
-first-list c = let p = entered c .pre in c .full .ensures ∙ full-of _ (tasks-listed _ (omega (arith, p .3, p .0 .sheet .counts .tasks)))
+first-list c = let p = entered c .pre in c .full .ensures ∙ full-of _ (tasks-listed _ (omega (arith, p .4, p .0 .sheet .counts .tasks)))
 
 -- ---- the needs
 
 loop-holds : tie.Need-loop-holds Inv-loop μ-loop
-loop-holds c = let p = entered c .pre in rw (first-list c) (begin (all-lists c) (p .0 .sheet .counts .tasks) (p .0 .room-here) (p .2) (p .3))
+loop-holds c = let p = entered c .pre in rw (first-list c) (begin (all-lists c) (p .0 .sheet .counts .tasks) (p .0 .room-here) (p .3) (p .4))
 
 list-row-requires : tie.Need-list-row-requires Inv-loop μ-loop
 list-row-requires c κs =
@@ -41,9 +41,10 @@ list-row-requires c κs =
     let more = e .before .loop-test .taken in (
       record { sheet = p .0 .sheet; room-below = p .0 .room-below; room-here = layer-room h },
       p .1,
+      p .2,
       omega (arith, h .all),
       sym (e .essential .ensures) ∙ c .before .if1 .taken,
-      rw (h .of-size more) (p .4),
+      rw (h .of-size more) (p .5),
     )
 
 next-requires : tie.Need-next-requires Inv-loop μ-loop

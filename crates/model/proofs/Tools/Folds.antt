@@ -99,6 +99,10 @@ module _ {A : Type 0} where
   length-mapBelow zero f = refl
   length-mapBelow (suc n) f = simp length-append (omega (arith, length-mapBelow n f))
 
+  pub mapBelow-cong : (n : ℕ) (f g : ℕ → A) → ((i : ℕ) → i < n → f i ≡ g i) → mapBelow n f ≡ mapBelow n g
+  unfolding mapBelow
+  mapBelow-cong n f g h = flat-cong n _ _ (λ i l. ap (λ (x : A). x ∷ []) (h i l))
+
   pub mapBelow-at : (n : ℕ) (f : ℕ → A) (i : ℕ) (d : A) → i < n → getD (mapBelow n f) i d ≡ f i
   unfolding mapBelow
   mapBelow-at zero f i d l = absurd (omega arith)

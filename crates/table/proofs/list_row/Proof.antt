@@ -7,14 +7,14 @@ use Rattle.view.proofs.Counted.{points-are}
 use Rattle.table.specs.Cells.{restRows}
 use Rattle.table.proofs.Parts.{row-ends, row-length, row-written}
 use Rattle.table.proofs.Bellman.{essential-allowed, rests-below, OpenList}
-use Rattle.table.proofs.ListRows.{Holding, load-asks, rows-are, gather-asks, hold, given, row-of}
+use Rattle.table.proofs.ListRows.{Holding, load-asks, rows-are, gather-asks, hold, narrow, row-asks, row-of}
 use Rattle.table.proofs.list_row.Statement.{statement}
 use Rattle.table.proofs.list_row.Tie as tie
 
 -- ---- places of the code, and what is known there
 
 abbrev entered : tie.After-slice-known → tie.Start
-entered c = c .before .before
+entered c = c .before .before .before
 
 abbrev begun : tie.After-parts → tie.After-slice-known
 begun c = c .before .before .before .before .before .before .before
@@ -24,7 +24,7 @@ gathered c = c .before .before .before .before .before
 
 -- the row is among the cells, and from where the code takes it
 room : (c : tie.Start) → let P = decode (c .args .s .now) .points in c .args .k * P + P ≤ length (c .args .cells .now)
-room c = omega (arith, c .pre .4)
+room c = omega (arith, c .pre .5)
 
 from-is : (c : tie.Start) → c .args .k * c .args .v .points ≡ c .args .k * decode (c .args .s .now) .points
 from-is c = ap (λ (n : ℕ). c .args .k * n) (points-are (c .pre .0 .view))
@@ -43,11 +43,11 @@ is-open c =
     let p = entered c .pre in
     record {
       sheet = p .0;
-      bytes = are-bytes (a .s .now) (c .before .shared-slice-known .given);
-      list = p .1;
-      ess = p .2;
-      rests = rests-below (a .k) (p .0 .plannable .ranges) (p .0 .counts .tasks) (essential-allowed (decode (a .s .now)) (a .k) (p .2))
-          (omega (arith, room (entered c))) (p .3);
+      bytes = are-bytes (a .s .now) (c .before .before .shared-slice-known .given);
+      list = p .2;
+      ess = p .3;
+      rests = rests-below (a .k) (p .0 .plannable .ranges) (p .0 .counts .tasks) (essential-allowed (decode (a .s .now)) (a .k) (p .3))
+          (omega (arith, room (entered c))) (p .4);
     }
 
 -- what the code has once the doors are gathered
@@ -64,7 +64,7 @@ holds c =
 -- ---- the needs
 
 load-requires : tie.Need-load-requires
-load-requires c κs = let p = entered c .pre in (p .0 .view, load-asks (p .0) (p .1) (p .2))
+load-requires c κs = let p = entered c .pre in (p .0 .view, load-asks (p .0) (p .2) (p .3))
 
 gather-requires : tie.Need-gather-requires
 gather-requires c κs =
@@ -78,6 +78,9 @@ add-end c =
     let a = entered (begun (gathered c .before)) .args in
     let h : a .k * a .v .points + a .v .points < 2 ^ 64 = omega (arith, small (begun (gathered c .before))) in
     record { fits = h }
+
+cast-row : tie.Need-cast-row
+cast-row c = omega (arith, narrow (is-open (begun (gathered c .before))) (holds (gathered c)))
 
 array-share-prefix-arrivals : tie.Need-array-share-prefix-arrivals
 array-share-prefix-arrivals c = holds (gathered c) .arrival .fits
@@ -104,17 +107,17 @@ row-requires : tie.Need-row-requires
 row-requires c κs =
     let g = gathered (c .before .before .before) in
     let s = entered (begun (g .before)) in
-    (given (is-open (begun (g .before))) (holds g), row-length _ _ _ (room s) (from-is s) (points-are (s .pre .0 .view)))
+    row-asks (is-open (begun (g .before))) (holds g) (s .pre .1) (row-length _ _ _ (room s) (from-is s) (points-are (s .pre .0 .view)))
 
 returns : tie.Need-returns
 returns c =
     let g = gathered (c .before .before .before .before .before .before) in
     let s = entered (begun (g .before)) in
     row-written _ _ _ (room s) (from-is s) (points-are (s .pre .0 .view)) (costToGo (decode (s .args .s .now)) (s .args .k))
-    (row-of (is-open (begun (g .before))) (holds g) (c .before .before .row .ensures))
+    (row-of (is-open (begun (g .before))) (holds g) (s .pre .1) (row-length _ _ _ (room s) (from-is s) (points-are (s .pre .0 .view))) (c .before .before .row .ensures))
 
 pub list-row-spec : {M : Type 1} → statement M
 list-row-spec = tie.close (tie.spec load-requires (λ c κs. search needs) (λ c. search needs) (λ c. search needs) (λ c. search needs)
-    (λ c. search needs) gather-requires (λ c. search needs) mul-from (λ c. search needs) add-end array-share-prefix-arrivals
+    (λ c. search needs) gather-requires (λ c. search needs) mul-from (λ c. search needs) add-end cast-row array-share-prefix-arrivals
     slice-aggregate-row array-share-prefix-parts slice-aggregate-row-2 mul-row (λ c. search needs) (λ c. search needs) part-row-end
     row-requires (λ c. search needs) returns)
