@@ -12,6 +12,9 @@ use rank::Table;
 use view::MAX_DOORS;
 use view::View;
 
+// One word more than the distances take: the columns then begin at a multiple of 16 bytes, as vectors of two cells like it.
+const COLUMNS: usize = MAX_DISTANCES + 1;
+
 // Writes the row of the essential list k into its layer, from the one below, which shows the lists with one task less.
 fn list_row(
     s: &[u8],
@@ -85,7 +88,7 @@ pub fn fill(s: &[u8], v: View, even: &mut [u64], odd: &mut [u64])
 {
     let points = v.points as usize;
     table::end_row(s, v, &mut even[..points]);
-    let mut columns = [0u64; MAX_DISTANCES];
+    let mut columns = [0u64; COLUMNS];
     columns::fill(s, v, &mut columns);
     let table = rank::pascal();
     let tasks = v.tasks;

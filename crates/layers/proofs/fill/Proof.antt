@@ -67,7 +67,7 @@ end-row-requires c κs =
     (s .pre .sheet .view, length-take-le _ _ (first-room s) ∙ points-are (s .pre .sheet .view))
 
 fill-requires : tie.Need-fill-requires Inv-loop μ-loop
-fill-requires c κs = let p = c .before .before .before .before .before .before .before .before .before .pre .sheet in (p .view, mul-le-mul (p .counts .points) (p .counts .points))
+fill-requires c κs = let p = c .before .before .before .before .before .before .before .before .before .pre .sheet in (p .view, omega (arith, mul-le-mul (p .counts .points) (p .counts .points)))
 
 loop-holds : tie.Need-loop-holds Inv-loop μ-loop
 loop-holds c = (tasks-are (entered c .pre .sheet .view), from-here (begun c))
