@@ -1,5 +1,5 @@
 -- The columns of a sheet, entry by entry. Assumes nothing.
-use Rattle.model.proofs.Basics.{_≡_, refl, ap, ap₂, _∙_, List, _++_, ℕ, _+_, _*_, _/_, _%_, _≤_, _<_, arith, length, getD, drop, length-append, List·getD-append}
+use Rattle.model.proofs.Basics.{_≡_, refl, ap₂, _∙_, List, ℕ, _+_, _*_, _/_, _%_, _<_, arith, length-append, List·getD-append}
 use Rattle.model.proofs.Basics.{digits-div, digits-mod, digits-lt}
 use Rattle.model.specs.{mapBelow, overwrite}
 use Rattle.model.specs.Sheet.{Sheet}

@@ -1,6 +1,6 @@
 -- A layer while the rows of one size are written into it, at their ranks: what is shown by then, and that every cell is as lent or an open cell of this layer.
 -- Ranks of lists of one size are distinct, so no row of a size is written over another of that size. Assumes nothing.
-use Rattle.model.proofs.Basics.{_≡_, refl, sym, ap, ap₂, _∙_, _≢_, _⊎_, inl, inr, ⊎-elim, true, false, List, _++_, ℕ, suc, _+_, _-_, _*_}
+use Rattle.model.proofs.Basics.{_≡_, refl, sym, ap, ap₂, _∙_, _⊎_, inl, inr, ⊎-elim, true, false, List, _++_, ℕ, suc, _+_, _-_, _*_}
 use Rattle.model.proofs.Basics.{_/_, _%_, _^_, _≤_, _<_}
 use Rattle.model.proofs.Basics.{arith, ltb, length, getD, ltb-true, ltb-false, mul-le-mul-right, pow-pos, pow-mono, ne-eqb, drop}
 use Rattle.model.specs.{mapBelow, bit, full, without, size, essential, pairsAllow, costToGo, overwrite, overwriteAt, maskBits, maxTasks, InRange}
@@ -12,7 +12,7 @@ use Rattle.model.proofs.Theory.FirstTask.{first-bit, allow-without}
 use Rattle.model.proofs.Theory.OpenAlong.{full-allowed}
 use Rattle.model.proofs.Theory.Completions.{to-go-none}
 use Rattle.model.proofs.Bytes.Overwriting.{length-over, over-front}
-use lib.Arith.{digits-lt, digits-div, digits-mod}
+use lib.Arith.{digits-div, digits-mod}
 use native.Mathlib.Nat.{one-mul, div-lt-iff-lt-mul}
 use Rattle.table.proofs.Bellman.{essential-allowed, Rests, rests-at}
 use Rattle.table.proofs.Filling.{over-below, over-in, over-beyond}
@@ -23,7 +23,7 @@ use Rattle.rank.proofs.Counting.{rank-distinct, rank-most, rank-full, rank-empt
 use Rattle.rank.proofs.Sizes.{size-narrow, full-least}
 use Rattle.rank.proofs.Following.{none-among}
 use Rattle.model.proofs.TaskLists.Lowest.{task-below}
-use Rattle.layers.specs.Layers.{layerCells, CostAtRank, OpenCell, withRow, LayerFilled, ShowsBelow, Shows, Kept}
+use Rattle.layers.specs.Layers.{layerCells, OpenCell, withRow, LayerFilled, ShowsBelow, Shows, Kept}
 
 -- ---- a row written at its place
 

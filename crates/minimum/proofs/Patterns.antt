@@ -1,10 +1,10 @@
 -- Numbers from 2 ^ 52 on and below 2 ^ 62 compare as the floats whose patterns they are. Such a float is normal: with H for 2 ^ 52, its exponent is n / H and its
 -- digits are n % H, so that in units of the least float it is worth (H + n % H) * 2 ^ (n / H - 1), which rises with n. Assumes nothing.
-use Rattle.model.proofs.Basics.{_≡_, refl, sym, ap, _∙_, subst, ⊎-elim, Bool, true, false, not, cond, true≢false, ℕ, zero, suc, _+_, _-_, _*_, _/_, _%_, _^_, _≤_, _<_}
+use Rattle.model.proofs.Basics.{_≡_, refl, sym, ap, _∙_, subst, true, false, not, cond, true≢false, ℕ, suc, _+_, _-_, _*_, _/_, _%_, _^_, _≤_, _<_}
 use Rattle.model.proofs.Basics.{min, le-refl, le-of-lt, lt-of-lt-of-le, mod-lt, mul-le-mul-left, mul-le-mul-right, pow-pos, pow-mono, pow-succ', arith, ℤ, pos, negsuc, T}
 use Rattle.model.proofs.Basics.{ltb, ltb-true, ltb-false, lt-ltb, le-ltb, lt-leb, ne-eqb, lit<, mul-assoc, le-div-iff-mul-le}
 use Rattle.model.proofs.Tools.Tests.{by-test, by-last, same-test}
-use native.Mathlib.Nat.{lt-irrefl, mod-le, mod-eq-of-lt, div-add-mod', mul-comm, mul-left-comm, mul-lt-mul-of-pos-right, lt-of-mul-lt-mul-right, div-lt-iff-lt-mul, mul-pos}
+use native.Mathlib.Nat.{lt-irrefl, mod-le, mod-eq-of-lt, div-add-mod', mul-comm, mul-lt-mul-of-pos-right, lt-of-mul-lt-mul-right, div-lt-iff-lt-mul, mul-pos}
 use lib.Ieee.{Float, nan, inf, fin, binary64, low, up, down, hid, ones, top, ofFields, ofBits, toBits, nanBits, isNan, lt}
 use lib.Ieee.Bits.{toBits-ofBits, nanBits-is, nanBits-above}
 use lib.Ieee.Exact.{HasValue, odd-sign}
@@ -17,7 +17,7 @@ pub record Normal (n : ℕ) : Type 0 where
 
 -- ---- what a pattern is worth
 
-abbrev pub worth : ℕ → ℕ
+abbrev worth : ℕ → ℕ
 worth n = (2 ^ 52 + n % 2 ^ 52) * 2 ^ (n / 2 ^ 52 - 1)
 
 -- x and y are the exponents less 1, s and t the digits
@@ -35,7 +35,7 @@ rises x s y t a b h = by-test (ltb x y)
     let q : y ≡ x = omega (arith, g, h, a, b) in
     rw q (mul-lt-mul-of-pos-right (omega (arith, h, q)) (pow-pos x)))
 
-pub greater : (n m : ℕ) → Normal n → n < m → worth n < worth m
+greater : (n m : ℕ) → Normal n → n < m → worth n < worth m
 greater n m a l = rises (n / 2 ^ 52 - 1) (n % 2 ^ 52) (m / 2 ^ 52 - 1) (m % 2 ^ 52) (mod-lt n (pow-pos 52)) (mod-lt m (pow-pos 52))
     (rw (whole n (a .low), whole m (omega (arith, a .low))) l)
   where
@@ -99,7 +99,7 @@ patterns-compare n m a b =
     no-less m n b l = by-last m n (omega arith) (λ e. rw e (le-refl (worth n))) (λ k. le-of-lt (greater m n b k))
 
 -- so the lesser of two such floats is that of the lesser number
-pub lesser-is : (n m : ℕ) → Normal n → Normal m → cond (lt (ofBits binary64 m) (ofBits binary64 n)) (ofBits binary64 m) (ofBits binary64 n) ≡ ofBits binary64 (min n m)
+lesser-is : (n m : ℕ) → Normal n → Normal m → cond (lt (ofBits binary64 m) (ofBits binary64 n)) (ofBits binary64 m) (ofBits binary64 n) ≡ ofBits binary64 (min n m)
 lesser-is n m a b = by-test (ltb m n)
     (λ e. let l : min n m ≡ m = omega (arith, ltb-true m n e) in rw (patterns-compare m n b a, e, l))
     (λ e. let l : min n m ≡ n = omega (arith, ltb-false m n e) in rw (patterns-compare m n b a, e, l))
@@ -107,13 +107,16 @@ lesser-is n m a b = by-test (ltb m n)
 -- ---- there and back
 
 -- no number below 2 ^ 62 is the pattern of a NaN
-pub no-nan : (n : ℕ) → n < 2 ^ 62 → nanBits binary64 n ≡ false
+no-nan : (n : ℕ) → n < 2 ^ 62 → nanBits binary64 n ≡ false
 no-nan n h = nanBits-above binary64 n ∙ le-ltb (ones binary64 * hid binary64) (n % top binary64) (omega (arith, mod-le n (top binary64)))
 
-pub is-number : (n : ℕ) → n < 2 ^ 62 → isNan (ofBits binary64 n) ≡ false
+pub a-pattern : (n : ℕ) → n < 2 ^ 62 → T (not (nanBits binary64 n))
+a-pattern n h = rw (no-nan n h) tt
+
+is-number : (n : ℕ) → n < 2 ^ 62 → isNan (ofBits binary64 n) ≡ false
 is-number n h = sym (nanBits-is binary64 n) ∙ no-nan n h
 
-pub pattern-back : (n : ℕ) → n < 2 ^ 62 → toBits binary64 (ofBits binary64 n) ≡ n
+pattern-back : (n : ℕ) → n < 2 ^ 62 → toBits binary64 (ofBits binary64 n) ≡ n
 pattern-back n h = toBits-ofBits binary64 n (omega arith) (rw (is-number n h) tt)
 
 -- ---- numbers that stand in floats

@@ -1,12 +1,12 @@
 -- The leasts of a row, lowered from the front by a loop: each stands in a float, and what stood there before is lowered by what its point costs. Assumes nothing.
-use Rattle.model.proofs.Basics.{_≡_, refl, sym, ap, _∙_, List, ℕ, _+_, _*_, _%_, _^_, _≤_, _<_, min, arith, length, getD, set, length-set, getD-set-same}
+use Rattle.model.proofs.Basics.{_≡_, refl, _∙_, List, ℕ, _+_, _*_, _%_, _^_, _≤_, _<_, arith, length, getD, set, length-set, getD-set-same}
 use Rattle.model.proofs.Basics.{getD-set-other}
 use Rattle.model.proofs.Tools.Tests.{by-last}
 use native.Mathlib.Nat.{mod-eq-of-lt}
 use lib.Ieee.{Float, nan}
 use Rattle.minimum.specs.Floats.{Holds}
 use Rattle.row.specs.Leasts.{noCost}
-use Rattle.row.specs.Held.{Held, Column}
+use Rattle.row.specs.Held.{Held}
 
 -- ---- the cost through a door
 

@@ -1,6 +1,6 @@
 -- The leasts over the doors passed, which a row has in floats, two doors more with each pass. It works with the entries of the columns, which are the distances.
 -- Assumes nothing.
-use Rattle.model.proofs.Basics.{_≡_, refl, sym, ap, ap₂, _∙_, _⊎_, inl, inr, List, _++_, ℕ, zero, suc, _+_, _-_, _*_, _^_, _≤_, _<_, min, mul-le-mul-right, arith}
+use Rattle.model.proofs.Basics.{_≡_, refl, ap₂, _∙_, _⊎_, inl, inr, List, _++_, ℕ, zero, suc, _+_, _-_, _*_, _≤_, _<_, min, mul-le-mul-right, arith}
 use Rattle.model.proofs.Basics.{length, getD, take, drop, replicate, getD-replicate, getD-take, length-take, List·getD-append}
 use Rattle.model.specs.{mapBelow}
 use Rattle.model.proofs.Tools.Folds.{mapBelow-cong}
@@ -8,7 +8,7 @@ use lib.ListN.{length-drop}
 use lib.Seq.{getD-drop}
 use lib.Ieee.{Float, nan}
 use Rattle.minimum.specs.Floats.{Holds}
-use Rattle.row.specs.Leasts.{noCost, leastBelow, throughPoint, throughGathered, leastFrom, Columns, Gathered, Rowable}
+use Rattle.row.specs.Leasts.{noCost, leastBelow, throughPoint, throughGathered, leastFrom, Columns, Rowable}
 use Rattle.row.specs.Held.{Held, Column}
 
 -- ---- the least of some numbers
@@ -56,7 +56,6 @@ module _ {distance : ℕ → ℕ → ℕ} {columns : List ℕ} {P : ℕ} (e : Co
 pub as-entries : {distance : ℕ → ℕ → ℕ} {columns : List ℕ} {P load : ℕ} {arrivals parts : List ℕ}
     → Rowable distance columns P load arrivals parts → Rowable (entries columns P) columns P load arrivals parts
 as-entries {distance} {columns} {P} {load} {arrivals} {parts} h = record {
-  point = h .point;
   few = h .few;
   wide = λ p q l k. rw (h .columned .entry p q l k) (h .wide p q l k);
   columned = record { room = h .columned .room; entry = λ p q l k. refl };

@@ -38,9 +38,8 @@ pub record Columns (distance : ℕ → ℕ → ℕ) (P : ℕ) (columns : List �
   pub room : P * P ≤ length columns
   pub entry : (p q : ℕ) → p < P → q < P → getD columns (q * P + p) 0 ≡ distance p q
 
--- what a row of P cells asks: a point, no more points than there is room for, distances of 32 bits, their columns, and gathered doors
+-- what a row of P cells asks: no more points than there is room for, distances of 32 bits, their columns, and gathered doors
 pub record Rowable (distance : ℕ → ℕ → ℕ) (columns : List ℕ) (P load : ℕ) (arrivals parts : List ℕ) : Type 0 where
-  pub point : 0 < P
   pub few : P ≤ maxPoints
   pub wide : (p q : ℕ) → p < P → q < P → distance p q < 2 ^ 32
   pub columned : Columns distance P columns

@@ -1,7 +1,7 @@
 // A row of the table of costs to go: for each point, the least cost through the doors that were gathered. It knows no list, no sheet and no bytes, and so serves wherever a
 // row is wanted; of floats it knows only that numbers stand in them.
 ghost use mathlib.Core.Path.{_≡_};
-ghost use Prim.Native.Nat.{ℕ, _+_, _*_, _^_, _≤_, _<_, min};
+ghost use Prim.Native.Nat.{ℕ, _+_, _*_, _^_, _<_, min};
 ghost use lib.ListN.{length, getD};
 ghost use Rattle.model.specs.Folds.{mapBelow};
 ghost use Rattle.minimum.specs.Floats.{Holds};

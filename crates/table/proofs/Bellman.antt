@@ -1,6 +1,6 @@
 -- What is gathered from cells in which the rests of K stand, in whatever rows, gives the cost to go with K open: Bellman's equation, as the code computes it.
 -- Assumes nothing.
-use Rattle.model.proofs.Basics.{_≡_, refl, sym, ap, _∙_, true, List, map, ℕ, zero, suc, _+_, _*_, _^_, _≤_, _<_, arith, length, getD}
+use Rattle.model.proofs.Basics.{_≡_, refl, sym, _∙_, true, List, map, ℕ, zero, suc, _+_, _*_, _^_, _≤_, _<_, arith, length, getD}
 use Rattle.model.proofs.Basics.{length-map, areBytes, pow-pos, natAbs}
 use Rattle.model.specs.{mapBelow, without, size, essential, pairsAllow, canComeFirst, firstDoors, load, stepCost, costToGo, maxTasks, decode, InRange}
 use Rattle.model.specs.Sheet.{Sheet}

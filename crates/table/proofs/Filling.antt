@@ -3,7 +3,7 @@ use Rattle.model.proofs.Basics.{_≡_, refl, sym, ap, ap₂, _∙_, _≢_, ⊎-
 use Rattle.model.proofs.Basics.{_%_, _^_, _≤_, _<_, arith, eqb, ltb, length, getD, take, drop, length-append, List·getD-append}
 use Rattle.model.proofs.Basics.{length-take-le, ext-getD, getD-take, eqb-true, eqb-false, ne-eqb, ltb-true, ltb-false, lt-ltb, le-ltb}
 use Rattle.model.proofs.Basics.{le-leb, mul-le-mul-right, pow-pos}
-use Rattle.model.specs.{mapBelow, essential, pairsAllow, costToGo, overwrite, overwriteAt, cellAfter, cellsAfter, decode, InRange}
+use Rattle.model.specs.{mapBelow, essential, pairsAllow, costToGo, overwrite, overwriteAt, cellAfter, cellsAfter, InRange}
 use Rattle.model.specs.Sheet.{Sheet}
 use Rattle.model.proofs.Tools.Tests.{tested, same-test, or-neither}
 use Rattle.model.proofs.Tools.Folds.{length-mapBelow, mapBelow-at, mapBelow-cong}

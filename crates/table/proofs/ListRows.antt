@@ -82,7 +82,6 @@ module _ {b : List ℕ} {v : View} {K : ℕ} {cells rows : List ℕ} (O : OpenLi
       row-asks = (
         decode b .distance,
         rw e (record {
-          point = O .sheet .counts .one-point;
           few = O .sheet .counts .points;
           wide = λ p q l k. omega (arith, widths b (O .bytes) .distance p q);
           columned = C;

@@ -1,5 +1,5 @@
 -- The least over the numbers below n is the least of a list, taken from either end. Assumes nothing.
-use Rattle.model.proofs.Basics.{_≡_, refl, sym, ap, ap₂, _∙_, List, [], _∷_, map, ℕ, zero, suc, _≤_, _<_, min, arith, length, getD}
+use Rattle.model.proofs.Basics.{_≡_, sym, ap, _∙_, List, [], _∷_, map, ℕ, zero, suc, _≤_, _<_, min, arith, length, getD}
 use Rattle.model.proofs.Basics.{length-map}
 use Rattle.model.specs.{least}
 use Rattle.model.proofs.Tools.Positions.{map-at}

@@ -1,5 +1,5 @@
 -- Parts of arrays and of the cells: what stands at the front of an array after it was written there, and a row written in the midst. Assumes nothing.
-use Rattle.model.proofs.Basics.{_≡_, sym, List, append-assoc, ℕ, _+_, _-_, _≤_, _<_, arith, length, take, drop}
+use Rattle.model.proofs.Basics.{_≡_, sym, List, append-assoc, ℕ, _+_, _-_, _≤_, arith, length, take, drop}
 use Rattle.model.proofs.Basics.{length-append, length-take, take-append-seam, le-leb}
 use Rattle.model.specs.{mapBelow, overwrite, overwriteAt}
 use Rattle.model.proofs.Tools.Folds.{length-mapBelow}

@@ -5,7 +5,7 @@ use Rattle.view.proofs.Counted.{tasks-are, points-are}
 use native.Mathlib.Nat.{add-sub-cancel}
 use Rattle.row.specs.Leasts.{Columns}
 use Rattle.columns.proofs.Entries.{columns-are}
-use Rattle.layers.specs.Layers.{layerCells, Layered}
+use Rattle.layers.specs.Layers.{layerCells}
 use Rattle.layers.proofs.Layering.{row-within, Stage, first-stage, from-here, from-before, even-stage, odd-stage, last-stage}
 use Rattle.layers.proofs.fill.Statement.{statement}
 use Rattle.layers.proofs.fill.Tie as tie

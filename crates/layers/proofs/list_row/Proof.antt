@@ -1,7 +1,7 @@
 -- The list is open, and its rests stand in the layer below, at their ranks; so what is gathered from there gives its costs to go, and they are written at its
 -- own rank. Assumes nothing.
-use Rattle.model.proofs.Basics.{_≡_, sym, ap, ap₂, _∙_, ℕ, suc, _+_, _-_, _*_, _^_, _≤_, _<_, arith, length, length-take-le, needs}
-use Rattle.model.specs.{size, costToGo, decode}
+use Rattle.model.proofs.Basics.{_≡_, sym, ap, ap₂, _∙_, ℕ, _+_, _-_, _*_, _^_, _≤_, _<_, arith, length, length-take-le, needs}
+use Rattle.model.specs.{costToGo, decode}
 use Rattle.model.proofs.Tools.Elements.{are-bytes}
 use Rattle.view.proofs.Counted.{points-are}
 use Rattle.table.proofs.Parts.{row-ends, row-length, row-written}

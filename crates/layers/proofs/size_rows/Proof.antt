@@ -1,10 +1,9 @@
 -- The lists of m tasks are visited one after the other: those below k are done, and the layer below shows what each needs. Assumes nothing.
 use Rattle.model.proofs.Basics.{_≡_, sym, ap, _∙_, ⊎-elim, _-_, _^_, _≤_, pow-mono, arith, needs}
-use Rattle.model.specs.{listsOf, fullOf, full, maxTasks, maskBits, decode}
+use Rattle.model.specs.{listsOf, full, decode}
 use Rattle.model.proofs.TaskLists.Masks.{lists-of, full-of}
 use Rattle.model.proofs.Bytes.Entries.{tasks-listed}
 use Rattle.view.proofs.Counted.{tasks-are}
-use Rattle.layers.specs.Layers.{Layered}
 use Rattle.layers.proofs.Layering.{Filling, begin, layer-room, row-turn, pass-turn, all-done}
 use Rattle.layers.proofs.size_rows.Statement.{statement}
 use Rattle.layers.proofs.size_rows.Tie as tie

@@ -1,6 +1,5 @@
 -- The leasts below p are lowered by both doors, one after the other, and the others are as they were. Assumes nothing.
-use Rattle.model.proofs.Basics.{_≡_, ℕ, _+_, _-_, _*_, _<_, min, arith, length, getD, needs}
-use Rattle.row.specs.Held.{Column}
+use Rattle.model.proofs.Basics.{_+_, _-_, _*_, _<_, min, arith, length, getD, needs}
 use Rattle.row.proofs.Lowering.{LoweredBelow, none-lowered, one-lowered, still, all-lowered}
 use Rattle.row.proofs.lower.Statement.{statement}
 use Rattle.row.proofs.lower.Tie as tie

@@ -1,5 +1,5 @@
 -- The leasts are those over the doors below i; i goes by two, and may end one beyond the doors. Assumes nothing.
-use Rattle.model.proofs.Basics.{_≡_, refl, sym, _∙_, ⊎-elim, inl, inr, _+_, _-_, _*_, _^_, _≤_, _<_, mul-le-mul, arith, length, getD, take, length-take-le, length-append, needs}
+use Rattle.model.proofs.Basics.{_≡_, refl, sym, _∙_, ⊎-elim, inl, inr, _+_, _-_, _*_, _≤_, _<_, arith, length, getD, take, length-take-le, length-append, needs}
 use lib.ListN.{length-drop}
 use Rattle.model.specs.{maxPoints}
 use Rattle.row.specs.Leasts.{Rowable}
