@@ -6,7 +6,7 @@
 #include "rank.h"
 #include "round.h"
 
-ALWAYS_INLINE void fill_layers_by(gather_call *gather, row_call *row_of, int with_columns, const struct sheet *s,
+ALWAYS_INLINE void fill_layers_by(gather_call *gather, row_call *row_of, enum columns columns, const struct sheet *s,
                                   uint64_t *even, uint64_t *odd)
 {
     struct round r;
@@ -15,8 +15,10 @@ ALWAYS_INLINE void fill_layers_by(gather_call *gather, row_call *row_of, int wit
     const struct rests rests = {NULL, rows};
 
     prepare(s, 0, &r);
-    if (with_columns)
+    if (columns == COLUMNS_OF_32_BITS)
         prepare_columns(s, &r);
+    if (columns == COLUMNS_OF_64_BITS)
+        prepare_wide_columns(s, &r);
     end_row(s, even);
     for (uint32_t size = 1; size <= s->ntasks; size++) {
         uint64_t *here = size % 2 ? odd : even, *below = size % 2 ? even : odd;

@@ -3,10 +3,10 @@
 #include "table.h"
 #include "ways.h"
 
-#define PLAN(name, gathering, points, gather, row_of, with_columns)                                                    \
+#define PLAN(name, gathering, points, gather, row_of, columns)                                                         \
     static void fill_##name(const struct sheet *s, uint64_t *cells)                                                    \
     {                                                                                                                  \
-        fill_by(gather, row_of, with_columns, s, cells);                                                               \
+        fill_by(gather, row_of, columns, s, cells);                                                                    \
     }                                                                                                                  \
     static uint32_t plan_##name(const uint8_t *sheet, size_t len, uint64_t *cells, size_t ncells, uint8_t *plan,       \
                                 size_t plan_len, uint64_t *cost)                                                       \

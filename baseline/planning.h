@@ -28,14 +28,15 @@ static inline void charges_by_door(const struct sheet *s, uint32_t list, uint64_
             charges[rule_door(rule)] += rule_charge(rule);
 }
 
-/* The first door, of a task that may come next, through which finishing costs what the cell here says. */
+/* The first door, of a task that may come next, through which finishing costs what the cell here says. Cells that are
+ * wrong, as tests/modes.sh has them, may say it of none: then the number of doors. */
 static inline uint32_t next_door(const struct sheet *s, const uint64_t *cells, uint32_t list, uint32_t from)
 {
     uint32_t first = list & ~receivers_of(s, list), load = load_of(s, list);
     uint64_t here = cells[list * s->npoints + from], charges[MAX_DOORS];
 
     charges_by_door(s, list, charges);
-    for (uint32_t d = 0;; d++) {
+    for (uint32_t d = 0; d < s->ndoors; d++) {
         const uint8_t *door = door_at(s, d);
         uint32_t task = door_task(door), rest = list & ~(1u << task);
         uint64_t cost = (uint64_t)distance(s, from, door_arrival(door)) * load + door_work(door) + charges[d]
@@ -43,6 +44,7 @@ static inline uint32_t next_door(const struct sheet *s, const uint64_t *cells, u
         if ((cost == here) & (first >> task & 1))
             return d;
     }
+    return s->ndoors;
 }
 
 static inline void put_u16(uint8_t *at, uint32_t number)
@@ -62,6 +64,8 @@ static inline uint64_t write_plan(const struct sheet *s, const uint64_t *cells, 
     put_u16(plan + START_AT, start);
     for (uint8_t *at = plan + DOORS_AT; list; at += 2) {
         uint32_t d = next_door(s, cells, list, from);
+        if (d == s->ndoors)
+            break;
         put_u16(at, d);
         list &= ~(1u << door_task(door_at(s, d)));
         from = door_departure(door_at(s, d));

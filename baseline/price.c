@@ -28,10 +28,10 @@ ALWAYS_INLINE uint32_t price_by(fill_layers_call *fill, const uint8_t *sheet, si
     return 0;
 }
 
-#define PRICE(name, gathering, points, gather, row_of, with_columns)                                                   \
+#define PRICE(name, gathering, points, gather, row_of, columns)                                                        \
     static void fill_##name(const struct sheet *s, uint64_t *even, uint64_t *odd)                                      \
     {                                                                                                                  \
-        fill_layers_by(gather, row_of, with_columns, s, even, odd);                                                    \
+        fill_layers_by(gather, row_of, columns, s, even, odd);                                                         \
     }                                                                                                                  \
     price_call OWN(price_##name);                                                                                      \
     uint32_t OWN(price_##name)(const uint8_t *sheet, size_t len, uint64_t *even, size_t neven, uint64_t *odd,          \

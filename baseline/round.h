@@ -14,6 +14,12 @@ struct half {
     uint64_t doors;     /* the set of the doors of its tasks */
 };
 
+/* The distances by columns, all those to one point together, that a way asks for. */
+enum columns { NO_COLUMNS, COLUMNS_OF_32_BITS, COLUMNS_OF_64_BITS };
+
+/* So many points are taken at once from columns of 64 bits, which end with a full step. */
+enum { POINTS_IN_A_STEP = 4 };
+
 /* What filling asks of a sheet, computed once. */
 struct round {
     uint32_t end_load, ndoors, nrules, npoints;
@@ -27,6 +33,7 @@ struct round {
     uint8_t rule_door[MAX_RULES];
     struct half low[HALF_LISTS], high[HALF_LISTS];
     uint32_t columns[MAX_POINTS][MAX_POINTS]; /* distances by "to", then "from"; only where they are asked for */
+    uint64_t wide_columns[MAX_POINTS][MAX_POINTS] __attribute__((aligned(16))); /* and of 64 bits, for vectors */
 };
 
 /* The doors gathered for a list: where each arrives, and the part of its cost that does not hang on the point, which is
@@ -100,6 +107,17 @@ static inline void prepare_columns(const struct sheet *s, struct round *r)
     for (size_t from = 0; from < s->npoints; from++)
         for (size_t to = 0; to < s->npoints; to++)
             r->columns[to][from] = distance(s, from, to);
+}
+
+/* From a point that the sheet has not, the distance is 0. */
+static inline void prepare_wide_columns(const struct sheet *s, struct round *r)
+{
+    for (size_t from = 0; from < s->npoints; from++)
+        for (size_t to = 0; to < s->npoints; to++)
+            r->wide_columns[to][from] = distance(s, from, to);
+    for (size_t from = s->npoints; from % POINTS_IN_A_STEP; from++)
+        for (size_t to = 0; to < s->npoints; to++)
+            r->wide_columns[to][from] = 0;
 }
 
 /* Whether all rows stand in the order of the lists decides how the cells of the rests are counted. */

@@ -4,7 +4,7 @@
 
 #include "round.h"
 
-ALWAYS_INLINE void fill_by(gather_call *gather, row_call *row_of, int with_columns, const struct sheet *s,
+ALWAYS_INLINE void fill_by(gather_call *gather, row_call *row_of, enum columns columns, const struct sheet *s,
                            uint64_t *cells)
 {
     struct round r;
@@ -12,8 +12,10 @@ ALWAYS_INLINE void fill_by(gather_call *gather, row_call *row_of, int with_colum
     uint64_t *row = cells;
 
     prepare(s, 1, &r);
-    if (with_columns)
+    if (columns == COLUMNS_OF_32_BITS)
         prepare_columns(s, &r);
+    if (columns == COLUMNS_OF_64_BITS)
+        prepare_wide_columns(s, &r);
     end_row(s, cells);
     for (uint32_t list = 1; list <= full_list(s); list++) {
         uint32_t receivers = receivers_in(&r, list);

@@ -105,7 +105,7 @@ struct Build {
     looks: [Look; 2],
     validate: Validate,
     triple_loop: Plan,
-    ways: [Way; 7],
+    ways: [Way; 9],
 }
 
 #[repr(C)]

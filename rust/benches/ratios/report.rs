@@ -15,6 +15,8 @@ pub struct Timed {
     /// What the goal is set by: for each list one pass over the rules and one over the doors; to read, its load as a
     /// sum over its tasks, and the pairs one by one. Validating has no other shape.
     pub plain: bool,
+    /// Whether the distances stand by columns. Reading and validating have none.
+    pub columns: bool,
 }
 
 /// What was timed: one sheet and one call by everyone.
@@ -44,6 +46,9 @@ impl Row {
                 entry.shape,
                 None | Some(["branches", _] | ["sums", "pairs"])
             ),
+            columns: entry
+                .shape
+                .is_some_and(|[_, points]| points.starts_with("columns")),
         });
         self.timed.extend(timed);
         self
@@ -69,9 +74,15 @@ impl Row {
         best.expect("a build for plain x86-64")
     }
 
-    /// The best C for the same target in any shape.
+    /// The best C for the same target in any shape without columns.
     pub fn fastest_c(&self) -> &Timed {
-        self.best_of(Maker::C).expect("a build for plain x86-64")
+        let fastest = self.best(|timed| timed.maker == Maker::C && !timed.columns);
+        fastest.expect("a build for plain x86-64")
+    }
+
+    /// The best C by columns for the same target, where there is one.
+    pub fn columns_c(&self) -> Option<&Timed> {
+        self.best(|timed| timed.maker == Maker::C && timed.columns)
     }
 
     /// The proved library's time over that of another.
@@ -121,21 +132,23 @@ pub fn print(rows: &Rows, subjects: &[&Subject]) {
 /// The one table of ratios.
 fn print_ratios<'a>(rows: impl Iterator<Item = &'a Row>) {
     println!(
-        "| call and sheet | Rattle | Rattle / best C | best C, same target | C in its fastest shape; Rattle / it \
+        "| call and sheet | Rattle | Rattle / best C | best C, same target \
+         | fastest C without columns; Rattle / it | C by columns; Rattle / it \
          | best C, native target; Rattle / it | Rust; Rattle / it | triple loop; it / best C |"
     );
-    println!("|---|---|---|---|---|---|---|---|");
+    println!("|---|---|---|---|---|---|---|---|---|");
     for row in rows {
         let against = |timed: &Timed| row.ratio_to(timed);
         let best = row.best_c();
         println!(
-            "| {} | {} | **{:.2}** | {} ({}) | {} | {} | {} | {} |",
+            "| {} | {} | **{:.2}** | {} ({}) | {} | {} | {} | {} | {} |",
             row.title,
             time(row.rattle().seconds),
             row.ratio_to(best),
             time(best.seconds),
             best.name,
             cell(Some(row.fastest_c()), against),
+            cell(row.columns_c(), against),
             cell(row.best_of(Maker::NativeC), against),
             cell(row.best_of(Maker::Rust), against),
             cell(row.best_of(Maker::TripleLoop), |timed| timed.seconds
