@@ -22,7 +22,7 @@
 #include <xmmintrin.h>
 
 #include "baseline.h"
-#include "vanplan.h"
+#include "drawn.h"
 
 extern const struct build *const baseline_builds[];
 extern const size_t baseline_count;
@@ -48,10 +48,8 @@ static const struct mode {
 };
 
 /* A sheet, what is lent to plan and to price it, and a plan to validate, to read and to write. */
-struct sheet {
-    char name[64];
-    uint8_t bytes[VANPLAN_MAX_SHEET_BYTES + 1];
-    size_t len;
+struct instance {
+    struct sheet sheet;
     size_t ncells, nlayer, nplan;
     size_t words; /* of the memory that cells and layers are lent from, with some behind them */
     uint64_t tasks;
@@ -74,120 +72,6 @@ struct lent {
 
 static struct lent due, found;
 
-/* Of the generator by which sheets are drawn, the same in every run. */
-static uint64_t state;
-
-static uint32_t below(uint32_t limit)
-{
-    state ^= state << 13;
-    state ^= state >> 7;
-    state ^= state << 17;
-    return (uint32_t)((state >> 32) * limit >> 32);
-}
-
-/* A cost, a distance or a load: small, so that plans tie; any; or near the most. */
-static uint32_t number(size_t scale, uint32_t most)
-{
-    return scale == 0 ? below(4) : scale == 1 ? below(most) : most - below(1000);
-}
-
-/* A number of so many bytes, the least significant first, behind what is there. */
-static void put(struct sheet *s, uint32_t number, size_t bytes)
-{
-    for (; bytes > 0; bytes--, number >>= 8)
-        s->bytes[s->len++] = (uint8_t)number;
-}
-
-/* The bodies, and the bytes of an entry of each. */
-enum { TASKS, DOORS, STARTS, PAIRS, RULES, POINTS, DISTANCES, BODIES };
-static const uint32_t bytes_each[BODIES] = {2, 10, 2, 4, 10, 4, 2};
-
-/* Of every twelve sheets one for each number of tasks. The first twelve, and some others, have the most doors and
- * points, or one fewer. */
-static void draw_entries(size_t i, uint32_t *n)
-{
-    int large = i < 12 || below(16) == 0;
-
-    n[TASKS] = 1 + i % 12;
-    n[DOORS] = large ? 64 - below(2) : n[TASKS] + below(65 - n[TASKS]);
-    n[STARTS] = 1 + below(16);
-    n[PAIRS] = n[TASKS] > 1 && below(2) ? below(33) : 0;
-    n[RULES] = below(2) ? below(33) : 0;
-    n[POINTS] = large ? 64 - below(2) : 1 + below(n[TASKS] > 8 ? 16 : 64);
-    n[DISTANCES] = n[POINTS] * n[POINTS];
-}
-
-static void put_head(struct sheet *s, const uint32_t *n, uint32_t end_load)
-{
-    uint32_t body, at = 46;
-
-    put(s, 1, 2);
-    put(s, end_load, 2);
-    for (body = 0; body < BODIES; body++) {
-        put(s, body + 1, 2);
-        put(s, at, 2);
-        put(s, n[body], 2);
-        at += n[body] * bytes_each[body];
-    }
-}
-
-static void put_doors(struct sheet *s, const uint32_t *n, size_t scale)
-{
-    uint32_t i;
-
-    for (i = 0; i < n[DOORS]; i++) {
-        put(s, i % n[TASKS], 2);
-        put(s, below(n[POINTS]), 2);
-        put(s, below(n[POINTS]), 2);
-        put(s, number(scale, UINT32_MAX), 4);
-    }
-}
-
-/* The sender of a pair has the lower number, so that some order keeps them all. */
-static void put_pairs_and_rules(struct sheet *s, const uint32_t *n, size_t scale)
-{
-    uint32_t i;
-
-    for (i = 0; i < n[PAIRS]; i++) {
-        uint32_t sender = below(n[TASKS] - 1);
-        put(s, sender, 2);
-        put(s, sender + 1 + below(n[TASKS] - 1 - sender), 2);
-    }
-    for (i = 0; i < n[RULES]; i++) {
-        put(s, below(n[DOORS]), 2);
-        put(s, below(1u << n[TASKS]), 2);
-        put(s, 1 + below(4), 2);
-        put(s, number(scale, UINT32_MAX), 4);
-    }
-}
-
-/* The first twelve have costs near the most and read. Of the others some have too little load, and some are damaged: a
- * bit is another one, or the last byte is missing. */
-static void draw(size_t i, struct sheet *s)
-{
-    uint32_t n[BODIES], j;
-    size_t scale = (i / 12 + 2) % 3;
-
-    memset(s, 0, sizeof *s);
-    snprintf(s->name, sizeof s->name, "drawn sheet %zu", i);
-    draw_entries(i, n);
-    put_head(s, n, number(scale, 65535));
-    for (j = 0; j < n[TASKS]; j++)
-        put(s, number(scale, 32767) - (scale == 0 ? below(2) : scale == 1 ? below(16384) : 0), 2);
-    put_doors(s, n, scale);
-    for (j = 0; j < n[STARTS]; j++)
-        put(s, below(n[POINTS]), 2);
-    put_pairs_and_rules(s, n, scale);
-    for (j = 0; j < n[POINTS]; j++)
-        put(s, number(scale, UINT32_MAX), 4);
-    for (j = 0; j < n[DISTANCES]; j++)
-        put(s, number(scale, 65535), 2);
-    if (i >= 12 && below(6) == 0)
-        s->bytes[below(100)] ^= (uint8_t)(1u << below(8));
-    if (i >= 12 && below(12) == 0)
-        s->len--;
-}
-
 static int load(const char *path, struct sheet *s)
 {
     FILE *file = fopen(path, "rb");
@@ -201,15 +85,15 @@ static int load(const char *path, struct sheet *s)
 }
 
 /* Its cheapest plan, or one of two tasks. A third of the plans state another cost. */
-static void add_plan(struct sheet *s)
+static void add_plan(struct instance *s)
 {
     static uint64_t cells[VANPLAN_MAX_CELLS];
     size_t written;
 
     s->tasks = 2;
-    if (vanplan_plan(s->bytes, s->len, cells, VANPLAN_MAX_CELLS, s->plan, sizeof s->plan, &s->cost) == 0) {
+    if (vanplan_plan(s->sheet.bytes, s->sheet.len, cells, VANPLAN_MAX_CELLS, s->plan, sizeof s->plan, &s->cost) == 0) {
         uint64_t points;
-        vanplan_read(s->bytes, s->len, &s->tasks, &points);
+        vanplan_read(s->sheet.bytes, s->sheet.len, &s->tasks, &points);
         vanplan_read_plan(s->tasks, s->plan, VANPLAN_PLAN_BYTES(s->tasks), &s->start, s->doors, 12, &s->cost);
     }
     s->cost += below(3) == 0;
@@ -218,10 +102,10 @@ static void add_plan(struct sheet *s)
 
 /* Room just as needed, or with some to spare; of eight rooms three are too small in one thing. Answers whether the
  * sheet reads. */
-static int add_room(struct sheet *s)
+static int add_room(struct instance *s)
 {
     uint64_t points = 1;
-    int reads = vanplan_read(s->bytes, s->len, &s->tasks, &points) == 0;
+    int reads = vanplan_read(s->sheet.bytes, s->sheet.len, &s->tasks, &points) == 0;
     uint32_t small = below(8);
     size_t spare = small > 2 && below(2) ? SPARE : 0;
 
@@ -236,38 +120,38 @@ static int add_room(struct sheet *s)
 static plan_call *planning;
 static price_call *pricing;
 
-static void plan(const struct sheet *s, struct lent *l)
+static void plan(const struct instance *s, struct lent *l)
 {
-    l->answer = planning(s->bytes, s->len, l->cells, s->ncells, l->plan, s->nplan, &l->cost);
+    l->answer = planning(s->sheet.bytes, s->sheet.len, l->cells, s->ncells, l->plan, s->nplan, &l->cost);
 }
 
-static void price(const struct sheet *s, struct lent *l)
+static void price(const struct instance *s, struct lent *l)
 {
-    l->answer = pricing(s->bytes, s->len, l->cells, s->nlayer, l->cells + s->nlayer, s->nlayer, &l->cost, &l->start);
+    l->answer = pricing(s->sheet.bytes, s->sheet.len, l->cells, s->nlayer, l->cells + s->nlayer, s->nlayer, &l->cost, &l->start);
 }
 
-static void price_row(const struct sheet *s, struct lent *l)
+static void price_row(const struct instance *s, struct lent *l)
 {
-    l->answer = vanplan_price_row(s->bytes, s->len, l->cells, s->nlayer, l->cells + s->nlayer, s->nlayer, &l->layer,
+    l->answer = vanplan_price_row(s->sheet.bytes, s->sheet.len, l->cells, s->nlayer, l->cells + s->nlayer, s->nlayer, &l->layer,
                                   &l->row);
 }
 
-static void read_sheet(const struct sheet *s, struct lent *l)
+static void read_sheet(const struct instance *s, struct lent *l)
 {
-    l->answer = vanplan_read(s->bytes, s->len, &l->tasks, &l->points);
+    l->answer = vanplan_read(s->sheet.bytes, s->sheet.len, &l->tasks, &l->points);
 }
 
-static void validate(const struct sheet *s, struct lent *l)
+static void validate(const struct instance *s, struct lent *l)
 {
-    l->answer = vanplan_validate(s->bytes, s->len, s->plan, VANPLAN_PLAN_BYTES(s->tasks), &l->cost);
+    l->answer = vanplan_validate(s->sheet.bytes, s->sheet.len, s->plan, VANPLAN_PLAN_BYTES(s->tasks), &l->cost);
 }
 
-static void write_plan(const struct sheet *s, struct lent *l)
+static void write_plan(const struct instance *s, struct lent *l)
 {
     l->answer = vanplan_write_plan(s->tasks, s->start, s->doors, 12, s->cost, l->plan, s->nplan, &l->written);
 }
 
-static void read_plan(const struct sheet *s, struct lent *l)
+static void read_plan(const struct instance *s, struct lent *l)
 {
     l->answer = vanplan_read_plan(s->tasks, s->plan, s->nplan, &l->start, l->doors, VANPLAN_MAX_PLAN_DOORS, &l->cost);
 }
@@ -275,7 +159,7 @@ static void read_plan(const struct sheet *s, struct lent *l)
 /* The C of baseline/ has the first two. */
 static const struct call {
     const char *name;
-    void (*make)(const struct sheet *s, struct lent *l);
+    void (*make)(const struct instance *s, struct lent *l);
 } calls[] = {
     {"planning", plan},
     {"pricing", price},
@@ -301,7 +185,7 @@ static void back_to_before(int signal)
 }
 
 /* Makes a call with these bits in the register, and answers what was noticed but the answers. */
-static int make_with(unsigned bits, const struct call *call, const struct sheet *s, struct lent *l)
+static int make_with(unsigned bits, const struct call *call, const struct instance *s, struct lent *l)
 {
     unsigned behind;
 
@@ -322,7 +206,7 @@ static void fill(struct lent *l, size_t bytes)
 }
 
 /* With all flags clear and, unless they would be signals, with all set. */
-static int notice(const struct mode *mode, const struct call *call, const struct sheet *s)
+static int notice(const struct mode *mode, const struct call *call, const struct instance *s)
 {
     size_t bytes = offsetof(struct lent, cells) + s->words * sizeof *due.cells;
     unsigned flags;
@@ -365,7 +249,7 @@ static const char *in_words(int noticed)
     return *words ? words : "same";
 }
 
-static void check_sheet(const struct mode *mode, const struct sheet *s, struct result *of_way, size_t ncalls)
+static void check_sheet(const struct mode *mode, const struct instance *s, struct result *of_way, size_t ncalls)
 {
     size_t i;
 
@@ -373,7 +257,7 @@ static void check_sheet(const struct mode *mode, const struct sheet *s, struct r
         struct result *r = &of_way[i];
         int noticed = notice(mode, &calls[i], s);
         if (noticed & ~r->noticed)
-            fprintf(stderr, "%s, %s, mode %s, %s: %s\n", r->way, r->call, mode->name, s->name, in_words(noticed));
+            fprintf(stderr, "%s, %s, mode %s, %s: %s\n", r->way, r->call, mode->name, s->sheet.name, in_words(noticed));
         r->noticed |= noticed;
     }
 }
@@ -394,7 +278,7 @@ static void take(size_t i, char **paths, struct sheet *s)
 /* Checks the first calls of a way on all sheets. */
 static void check_way(const char *way, size_t ncalls, const struct mode *mode, size_t npaths, char **paths)
 {
-    static struct sheet s;
+    static struct instance s;
     struct result *of_way = results + nresults;
     size_t i, read = 0;
 
@@ -402,7 +286,8 @@ static void check_way(const char *way, size_t ncalls, const struct mode *mode, s
         of_way[i] = (struct result){way, calls[i].name, 0};
     state = 2026;
     for (i = 0; i < DRAWN + npaths; i++) {
-        take(i, paths, &s);
+        memset(&s, 0, sizeof s);
+        take(i, paths, &s.sheet);
         add_plan(&s);
         read += add_room(&s);
         check_sheet(mode, &s, of_way, ncalls);

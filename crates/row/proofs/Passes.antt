@@ -8,7 +8,7 @@ use lib.ListN.{length-drop}
 use lib.Seq.{getD-drop}
 use lib.Ieee.{Float, nan}
 use Rattle.minimum.specs.Floats.{Holds}
-use Rattle.row.specs.Leasts.{noCost, leastBelow, throughPoint, throughGathered, leastFrom, Columns, Rowable}
+use Rattle.row.specs.Leasts.{noCost, leastBelow, throughPoint, throughGathered, leastFrom, entryOf, Columns, Rowable}
 use Rattle.row.specs.Held.{Held, Column}
 
 -- ---- the least of some numbers
@@ -35,12 +35,9 @@ two-passed f m i j l (inr w) =
 
 -- ---- the entries of the columns, in place of the distances
 
-abbrev pub entries : List ℕ → ℕ → ℕ → ℕ → ℕ
-entries columns P p q = getD columns (q * P + p) 0
-
 -- what the i-th door costs from point p
 abbrev pub costs : List ℕ → ℕ → ℕ → List ℕ → List ℕ → ℕ → ℕ → ℕ
-costs columns P load arrivals parts = throughGathered (entries columns P) load arrivals parts
+costs columns P load arrivals parts = throughGathered (entryOf columns P) load arrivals parts
 
 module _ {distance : ℕ → ℕ → ℕ} {columns : List ℕ} {P : ℕ} (e : Columns distance P columns) (load : ℕ) (arrivals parts : List ℕ)
     (there : (i : ℕ) → i < length parts → getD arrivals i 0 < P) where
@@ -48,13 +45,13 @@ module _ {distance : ℕ → ℕ → ℕ} {columns : List ℕ} {P : ℕ} (e : Co
   unfolding throughGathered throughPoint
   costs-are p i l k = rw (e .entry p (getD arrivals i 0) l (there i k)) refl
 
-  pub leasts-are : mapBelow P (leastFrom (entries columns P) load arrivals parts) ≡ mapBelow P (leastFrom distance load arrivals parts)
+  pub leasts-are : mapBelow P (leastFrom (entryOf columns P) load arrivals parts) ≡ mapBelow P (leastFrom distance load arrivals parts)
   unfolding leastFrom
   leasts-are = mapBelow-cong P _ _ (λ p l. least-cong (length parts) _ _ (λ i k. costs-are p i l k))
 
 -- so what is asked of the distances holds of the entries
 pub as-entries : {distance : ℕ → ℕ → ℕ} {columns : List ℕ} {P load : ℕ} {arrivals parts : List ℕ}
-    → Rowable distance columns P load arrivals parts → Rowable (entries columns P) columns P load arrivals parts
+    → Rowable distance columns P load arrivals parts → Rowable (entryOf columns P) columns P load arrivals parts
 as-entries {distance} {columns} {P} {load} {arrivals} {parts} h = record {
   few = h .few;
   wide = λ p q l k. rw (h .columned .entry p q l k) (h .wide p q l k);
@@ -80,7 +77,7 @@ column-entry columns at n p l = getD-take (at + n - at) (drop at columns) p 0 (o
 abbrev pub Leasts : List ℕ → ℕ → ℕ → List ℕ → List ℕ → ℕ → List Float → Type 0
 Leasts columns P load arrivals parts i leasts = Held (λ p. leastBelow (min i (length parts)) (costs columns P load arrivals parts p)) P leasts
 
-module _ {columns : List ℕ} {P load : ℕ} {arrivals parts : List ℕ} (h : Rowable (entries columns P) columns P load arrivals parts) where
+module _ {columns : List ℕ} {P load : ℕ} {arrivals parts : List ℕ} (h : Rowable (entryOf columns P) columns P load arrivals parts) where
   -- the i-th door
   module _ (i : ℕ) (l : i < length parts) where
     abbrev from : ℕ
@@ -126,6 +123,6 @@ module _ {columns : List ℕ} {P load : ℕ} {arrivals parts : List ℕ} (h : Ro
 
   -- all doors passed
   pub all-passed : (i : ℕ) → length parts ≤ i
-      → mapBelow P (λ p. leastBelow (min i (length parts)) (costs columns P load arrivals parts p)) ≡ mapBelow P (leastFrom (entries columns P) load arrivals parts)
+      → mapBelow P (λ p. leastBelow (min i (length parts)) (costs columns P load arrivals parts p)) ≡ mapBelow P (leastFrom (entryOf columns P) load arrivals parts)
   unfolding leastFrom
   all-passed i l = let e : min i (length parts) ≡ length parts = omega (arith, l) in rw e refl

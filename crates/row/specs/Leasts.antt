@@ -33,10 +33,14 @@ pub record Gathered (distance : ℕ → ℕ → ℕ) (P load : ℕ) (arrivals pa
   pub arrival : (i : ℕ) → i < length parts → getD arrivals i 0 < P
   pub fits : (p i : ℕ) → p < P → i < length parts → throughGathered distance load arrivals parts p i < noCost
 
+-- in columns of P entries, the entry of point p in the column of point q
+abbrev pub entryOf : List ℕ → ℕ → ℕ → ℕ → ℕ
+entryOf columns P p q = getD columns (q * P + p) 0
+
 -- the distances between P points by columns: those to point 0 from every point, then those to point 1, and on
 pub record Columns (distance : ℕ → ℕ → ℕ) (P : ℕ) (columns : List ℕ) : Type 0 where
   pub room : P * P ≤ length columns
-  pub entry : (p q : ℕ) → p < P → q < P → getD columns (q * P + p) 0 ≡ distance p q
+  pub entry : (p q : ℕ) → p < P → q < P → entryOf columns P p q ≡ distance p q
 
 -- what a row of P cells asks: no more points than there is room for, distances of 32 bits, their columns, and gathered doors
 pub record Rowable (distance : ℕ → ℕ → ℕ) (columns : List ℕ) (P load : ℕ) (arrivals parts : List ℕ) : Type 0 where

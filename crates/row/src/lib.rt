@@ -5,7 +5,7 @@ ghost use Prim.Native.Nat.{ℕ, _+_, _*_, _^_, _<_, min};
 ghost use lib.ListN.{length, getD};
 ghost use Rattle.model.specs.Folds.{mapBelow};
 ghost use Rattle.minimum.specs.Floats.{Holds};
-ghost use Rattle.row.specs.Leasts.{noCost, leastFrom, Columns, Rowable};
+ghost use Rattle.row.specs.Leasts.{noCost, leastFrom, entryOf, Rowable};
 ghost use Rattle.row.specs.Held.{Held, Column};
 
 pub const MAX_POINTS: usize = 64;
@@ -56,10 +56,11 @@ fn settle(leasts: &[f64], out: &mut [u64])
     }
 }
 
-// Writes the row, whatever distances the columns are of: the least from each point, two doors after two. The last of an odd number of doors is taken twice, which changes no least.
+// Writes the row: from each point the least, two doors after two. The last of an odd number of doors is taken twice, which changes no least. The columns are those of some distances,
+// and so the least is that of the distances.
 pub fn row(columns: &[u64], load: u32, arrivals: &[u16], parts: &[u64], out: &mut [u64])
     requires { ⌜ ((distance : ℕ → ℕ → ℕ) × Rowable distance (now columns) (length (now out)) load (now arrivals) (now parts)) ⌝ }
-    ensures { λ _. ⌜ ((distance : ℕ → ℕ → ℕ) → Columns distance (length (now (out .entry))) (now (columns .entry)) → now (out .exit) ≡ mapBelow (length (now (out .entry))) (leastFrom distance load (now (arrivals .entry)) (now (parts .entry)))) ⌝ }
+    ensures { λ _. ⌜ now (out .exit) ≡ mapBelow (length (now (out .entry))) (leastFrom (entryOf (now (columns .entry)) (length (now (out .entry)))) load (now (arrivals .entry)) (now (parts .entry))) ⌝ }
 {
     let points = out.len();
     let m = parts.len();

@@ -10,7 +10,8 @@ use lib.Signed.{nonNeg}
 use Rattle.view.specs.declared.View.{View}
 use Rattle.view.proofs.Counted.{points-are}
 use Rattle.gather.specs.Gathering.{partOf, Gatherable}
-use Rattle.row.specs.Leasts.{leastFrom, Columns, Gathered, Rowable}
+use Rattle.row.specs.Leasts.{leastFrom, entryOf, Columns, Gathered, Rowable}
+use Rattle.row.proofs.Passes.{leasts-are}
 use Rattle.table.specs.Cells.{restRows, Fillable}
 use Rattle.table.proofs.Parts.{front-is, front-there}
 use Rattle.table.proofs.Bellman.{arrivals, parts, OpenList, gatherable, gathered, load-small, row-is}
@@ -90,6 +91,9 @@ module _ {b : List ℕ} {v : View} {K : ℕ} {cells rows : List ℕ} (O : OpenLi
       )
 
       -- whose cells are the costs to go
-      pub row-of : {row : List ℕ} → ((distance : ℕ → ℕ → ℕ) → Columns distance n columns → row ≡ mapBelow n (leastFrom distance w (take m arrives) (take m costs)))
+      pub row-of : {row : List ℕ} → row ≡ mapBelow n (leastFrom (entryOf columns n) w (take m arrives) (take m costs))
           → row ≡ mapBelow (decode b .points) (costToGo (decode b) K)
-      row-of f = f (decode b .distance) (rw e C) ∙ rw e (mapBelow-cong (decode b .points) _ _ (λ p l. rw (h .load-is, h .arrival .is, h .part .is) (row-is O p l)))
+      row-of f =
+          (rw e at f)
+          ∙ leasts-are C w (take m arrives) (take m costs) (given .arrival)
+          ∙ mapBelow-cong (decode b .points) _ _ (λ p l. rw (h .load-is, h .arrival .is, h .part .is) (row-is O p l))

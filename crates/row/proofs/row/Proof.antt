@@ -2,8 +2,8 @@
 use Rattle.model.proofs.Basics.{_≡_, refl, sym, _∙_, ⊎-elim, inl, inr, _+_, _-_, _*_, _≤_, _<_, arith, length, getD, take, length-take-le, length-append, needs}
 use lib.ListN.{length-drop}
 use Rattle.model.specs.{maxPoints}
-use Rattle.row.specs.Leasts.{Rowable}
-use Rattle.row.proofs.Passes.{Next, entries, leasts-are, as-entries, Leasts, column-ends, column-of, at-first, front-leasts, pass, all-passed}
+use Rattle.row.specs.Leasts.{entryOf, Rowable}
+use Rattle.row.proofs.Passes.{Next, as-entries, Leasts, column-ends, column-of, at-first, front-leasts, pass, all-passed}
 use Rattle.row.proofs.row.Statement.{statement}
 use Rattle.row.proofs.row.Tie as tie
 
@@ -24,7 +24,7 @@ abbrev entered : tie.Joined1 Inv-loop μ-loop → tie.Start Inv-loop μ-loop
 entered c = begun (c .before .before)
 
 asked : (c : tie.Start Inv-loop μ-loop) → let a = c .args in
-    Rowable (entries (a .columns .now) (length (a .out .now))) (a .columns .now) (length (a .out .now)) (a .load) (a .arrivals .now) (a .parts .now)
+    Rowable (entryOf (a .columns .now) (length (a .out .now))) (a .columns .now) (length (a .out .now)) (a .load) (a .arrivals .now) (a .parts .now)
 asked c = as-entries (c .pre .1)
 
 -- the leasts are among the floats
@@ -142,13 +142,11 @@ settle-requires c κs =
     (lent l, (_, front-leasts (asked (begun l)) _ _ _ refl (l .loop .inv .2)))
 
 returns : tie.Need-returns Inv-loop μ-loop
-returns c distance e =
+returns c =
     let l = c .before .before .before .before .before in
-    let s = begun (l .before) in
-    let g = asked s in
+    let g = asked (begun (l .before)) in
     c .before .before .settle .ensures _ (front-leasts g _ _ _ refl (l .before .loop .inv .2))
     ∙ all-passed g _ (omega (arith, l .loop-test .left))
-    ∙ leasts-are e (s .args .load) (s .args .arrivals .now) (s .args .parts .now) (g .gathered .arrival)
 
 pub row-spec : {M : Type 1} → statement M
 row-spec = tie.close (tie.spec Inv-loop μ-loop (λ c κs. search needs) loop-holds (λ c. search needs) (λ c. search needs) (λ c. search needs) shared-slice-read-a cast-a mul-a
