@@ -5,7 +5,7 @@ use Rattle.model.proofs.Basics.{min, le-refl, le-of-lt, lt-of-lt-of-le, mod-lt,
 use Rattle.model.proofs.Basics.{ltb, ltb-true, ltb-false, lt-ltb, le-ltb, lt-leb, ne-eqb, lit<, mul-assoc, le-div-iff-mul-le}
 use Rattle.model.proofs.Tools.Tests.{by-test, by-last, same-test}
 use native.Mathlib.Nat.{lt-irrefl, mod-le, mod-eq-of-lt, div-add-mod', mul-comm, mul-lt-mul-of-pos-right, lt-of-mul-lt-mul-right, div-lt-iff-lt-mul, mul-pos}
-use lib.Ieee.{Float, nan, inf, fin, binary64, low, up, down, hid, ones, top, ofFields, ofBits, toBits, nanBits, isNan, lt}
+use lib.Ieee.{Float, nan, inf, fin, binary64, prec, low, up, down, hid, ones, top, ofFields, ofBits, toBits, nanBits, isNan, lt}
 use lib.Ieee.Bits.{toBits-ofBits, nanBits-is, nanBits-above}
 use lib.Ieee.Exact.{HasValue, odd-sign}
 use Rattle.minimum.specs.Floats.{floatOf, Holds}
@@ -74,7 +74,7 @@ values-compare (fin false m e) (fin false n d) a b c C p q = cross (m * up e) (n
 
 fields-worth : (x t : ℕ) → suc x < ones binary64 → HasValue (ofFields binary64 false (suc x) t) false ((hid binary64 + t) * 2 ^ x) (2 ^ low binary64)
 unfolding ofFields
-fields-worth x t h = rw (ne-eqb (suc x) (ones binary64) (λ e. omega (arith, h, e))) (odd-sign 53 false (hid binary64 + t) x (low binary64))
+fields-worth x t h = rw (ne-eqb (suc x) (ones binary64) (λ e. omega (arith, h, e))) (odd-sign (prec binary64) false (hid binary64 + t) x (low binary64))
 
 bits-worth : (n : ℕ) → Normal n → HasValue (ofBits binary64 n) false (worth n) (2 ^ low binary64)
 unfolding ofBits

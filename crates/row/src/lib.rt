@@ -8,7 +8,7 @@ ghost use Rattle.minimum.specs.Floats.{Holds};
 ghost use Rattle.row.specs.Leasts.{noCost, leastFrom, entryOf, Rowable};
 ghost use Rattle.row.specs.Held.{Held, Column};
 
-pub const MAX_POINTS: usize = 64;
+const MAX_POINTS: usize = 64;
 
 // More than any cost: 2^60.
 const NO_COST: u64 = 1152921504606846976;
