@@ -7,7 +7,7 @@
  * Any bytes and any numbers may be passed: no call reads or writes outside of what it is lent, and every call ends. A
  * call keeps nothing from one call to the next and may be made from several threads at once.
  *
- * vanplan_plan and vanplan_price take up to 36 KB of stack, and each other call up to 2 KB. The floating-point state of
+ * vanplan_plan and vanplan_price take up to 42 KB of stack, and each other call up to 2 KB. The floating-point state of
  * the processor (MXCSR) may be any: no call answers otherwise for it, and none changes it, no flag either.
  *
  * Where several refusals apply, the first in the order in which they are tested is returned, which is not always the

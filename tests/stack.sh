@@ -3,7 +3,7 @@
 # The most that include/vanplan.h says of a call, in bytes.
 most_stack() {
     case $1 in
-    vanplan_plan | vanplan_price) echo 36864 ;;
+    vanplan_plan | vanplan_price) echo 43008 ;;
     *) echo 2048 ;;
     esac
 }

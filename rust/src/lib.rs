@@ -24,7 +24,7 @@
 //! what it refuses, it refuses with a [`Refusal`]. Nothing panics, unless another library is linked than the one of this
 //! version and answers with a number of its own. The layout of a sheet and of a plan is in `include/vanplan.h`.
 //!
-//! Planning and pricing take up to 36 KB of stack, and each other call up to 2 KB.
+//! Planning and pricing take up to 42 KB of stack, and each other call up to 2 KB.
 
 #![deny(missing_docs)]
 #![deny(unsafe_op_in_unsafe_fn)]

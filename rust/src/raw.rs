@@ -2,7 +2,7 @@
 //!
 //! Each returns [`ACCEPTED`], or the number of a refusal, which [`Refusal::number`](crate::Refusal::number) has for each;
 //! [`price`] and [`price_row`] return what they found, or the refusal. Where a call refuses, everything that was lent is
-//! as it was. [`plan`] and [`price`] take up to 36 KB of stack, and each other call up to 2 KB.
+//! as it was. [`plan`] and [`price`] take up to 42 KB of stack, and each other call up to 2 KB.
 
 use crate::ffi;
 use crate::price::Price;

@@ -1,4 +1,3 @@
-pub mod Receivers
 pub mod Lightest
 pub mod Stepping
 pub mod Making

@@ -1,5 +1,5 @@
 -- An essential list by the senders of each task: none that it lacks has a sender in it. Assumes nothing.
-use Rattle.model.proofs.Basics.{_≡_, refl, sym, ap, _∙_, Bool, true, false, not, _&&_, _||_, ℕ, zero, suc, _≤_, _<_, arith, eqb, eqb-true, eq-eqb}
+use Rattle.model.proofs.Basics.{_≡_, refl, sym, ap, _∙_, _≢_, Bool, true, false, not, _&&_, _||_, ℕ, zero, suc, _≤_, _<_, arith, eqb, eqb-true, eq-eqb, ne-eqb}
 use Rattle.model.proofs.Basics.{or-false, not-true}
 use Rattle.model.specs.{allBelow, anyBelow, mapBelow, member, maxTasks, maskBits, meets, sendersBelow, sendersOf, essential, InRange}
 use Rattle.model.specs.Sheet.{Sheet}
@@ -9,7 +9,15 @@ use Rattle.model.proofs.Tools.Folds.{mapBelow-at}
 use Rattle.model.proofs.TaskLists.Masks.{with-in}
 use Rattle.feasible.proofs.Striking.{meets-none, meets-with}
 use Rattle.essential.specs.Method.{closedBy}
-use Rattle.essential.proofs.Receivers.{keepsReceiver, some-open}
+
+-- K has pair i's receiver, or not its sender
+abbrev keepsReceiver : Sheet → ℕ → ℕ → Bool
+keepsReceiver S K i = not (member K (S .sender i)) || member K (S .receiver i)
+
+-- something is open
+some-open : (S : Sheet) (K : ℕ) → K ≢ 0 → essential S K ≡ allBelow (S .pairs) (keepsReceiver S K)
+unfolding essential
+some-open S K some = rw (ne-eqb K 0 some)
 
 -- pair i leads to task t, and K has its sender
 abbrev leads : Sheet → ℕ → ℕ → ℕ → Bool

@@ -1,10 +1,9 @@
-// Essential lists: whether a list is one, and fault 16, whether some essential list has a load below zero.
+// Fault 16: whether some essential list has a load below zero.
 ghost use mathlib.Core.Path.{_≡_};
 ghost use Prim.Native.Nat.{_≤_, _<_};
 ghost use lib.ListN.{length};
 ghost use Rattle.model.specs.SheetLayout.{maxTasks, decode};
 ghost use Rattle.model.specs.Method.{maskBits};
-ghost use Rattle.model.specs.Orders.{essential};
 ghost use Rattle.model.specs.Faults.{tooLight};
 ghost use Rattle.model.specs.Passing.{InRange};
 ghost use Rattle.model.specs.Lightest.{lightestTooLight};
@@ -12,27 +11,6 @@ ghost use Rattle.view.specs.Views.{Viewed};
 ghost use Rattle.essential.specs.Method.{Steps, closedBy};
 use view::MAX_TASKS;
 use view::View;
-
-// Whether list k is essential: not empty and, for each pair, with the receiver whenever it has the sender.
-pub fn essential(s: &[u8], v: View, k: u32) -> bool
-    requires { ⌜ Viewed (now s) v ⌝ }
-    ensures { λ r. ⌜ r ≡ essential (decode (now (s .entry))) k ⌝ }
-{
-    if k == 0 {
-        return false;
-    }
-    let pairs = v.pairs;
-    let mut i: u16 = 0;
-    while i < pairs {
-        let sender = view::sender(s, v, i);
-        let receiver = view::receiver(s, v, i);
-        if tasklist::contains(k, sender) & !tasklist::contains(k, receiver) {
-            return false;
-        }
-        i = i + 1;
-    }
-    true
-}
 
 // Whether the end load and all negative changes, the load of the lightest list of all, add up to less than zero. 32 bits hold the sum of as many
 // changes as a mask has bits.

@@ -8,9 +8,13 @@ ghost use Rattle.model.specs.Faults.{readSheet};
 ghost use Rattle.model.specs.Planning.{cellsNeeded, plan};
 ghost use Rattle.view.specs.Views.{viewOf, Viewed};
 ghost use Rattle.planner.specs.Answers.{answerOf};
+use kernel_sheet::MAX_DISTANCES;
 use refusal::Refusal;
 use sheet::Reading;
 use view::View;
+
+// One word more than the distances take: the columns then begin at a multiple of 16 bytes, as vectors of two cells like it.
+const COLUMNS: usize = MAX_DISTANCES + 1;
 
 // What planning answers: the cost, or the sheet's own refusal, or 20 or 21.
 pub enum Planning {
@@ -54,12 +58,16 @@ fn plan_sheet(s: &[u8], v: View, cells: &mut [u64], buf: &mut [u8]) -> Planning
     if short {
         return Planning::Refused(Refusal::ShortBuffer);
     }
-    table::fill(s, v, cells);
+    let numbers = kernel_prepare::numbers(s, v);
+    let mut columns = [0u64; COLUMNS];
+    kernel_prepare::columns(s, v, &mut columns);
+    kernel_table::fill(numbers, &columns, cells);
     let full = tasklist::full(v.tasks);
     let from = full as usize * v.points as usize;
-    let start = start::first_start(s, v, &cells[from..]);
-    let point = view::start_point(s, v, start);
-    let x = complete::complete(s, v, point, full, cells);
+    let starts = numbers.starts;
+    let start = kernel_start::first_start(&starts, v.starts, &cells[from..]);
+    let point = starts[start as usize];
+    let x = kernel_complete::complete(numbers, &columns, point, full, cells);
     let doors = x.doors;
     plan::write(v.tasks as usize, start, &doors, x.cost, buf);
     Planning::Planned(x.cost)

@@ -8,7 +8,7 @@ use Rattle.model.specs.{tooShort, wrongKind, wrongEntries, someWrongEntries, wr
 use Rattle.model.specs.{badRule, someBadDoor, someBadStart, someBadPair, someBadRule, outOfRange, lacksDoor, someLacksDoor, lightList, tooLight}
 use Rattle.model.specs.{sheetTests, unlessFault}
 use Rattle.rank.specs.Binomials.{mostLists}
-use Rattle.layers.specs.Layers.{layerCells}
+use Rattle.kernel_layers.specs.Layers.{layerCells}
 use Rattle.price.specs.Pricing.{shortLayer, layerTests, unlessShort, priceOf, price, layerOf, priceRow, rowPlace}
 use Rattle.price.specs.Examples.{checkPriced}
 

@@ -1,30 +1,24 @@
 -- What is claimed of pricing holds: its numbers by the tests that it shares with the row call, and its answer as that of planning, because both are made of the
 -- cheapest plan. Assumes nothing.
-use Rattle.model.proofs.Basics.{_≡_, refl, sym, ap, _∙_, _⊎_, inl, inr, ⊎-elim, _↔_, Bool, true, false, _||_, List, [], _∷_, _++_, some}
-use Rattle.model.proofs.Basics.{ℕ, _+_, _*_, _%_, _^_}
+use Rattle.model.proofs.Basics.{_≡_, refl, sym, ap, _∙_, _⊎_, inl, inr, ⊎-elim, _↔_, Bool, true, false, _||_, List, [], _∷_, _++_, some, ℕ, _+_, _*_, _%_, _^_}
 use Rattle.model.proofs.Basics.{_≤_, _<_, arith, lit<, ltb, length, ext-getD, ltb-true, lt-ltb, le-ltb, mul-le-mul-right}
-use Rattle.model.specs.{Answer.Answer, Plans.Plan, Sheet.Sheet, mapBelow, indexOf, full, cheapest, costToGo, refused, accepted, Test}
-use Rattle.model.specs.{_when_, refuseFirst, status}
-use Rattle.model.specs.{placed, placedNumber, overwrite, decode, decodeBy, entries, lineAt, readSheet, sheetTests, unlessFault}
-use Rattle.model.specs.{planLength, planBytes, shortRoom}
+use Rattle.model.specs.{Answer.Answer, Plans.Plan, Sheet.Sheet, mapBelow, indexOf, full, cheapest, costToGo, refused, accepted, Test, _when_, refuseFirst, status}
+use Rattle.model.specs.{placed, placedNumber, overwrite, decode, decodeBy, entries, lineAt, readSheet, sheetTests, unlessFault, planLength, planBytes, shortRoom}
 use Rattle.model.specs.{cellsNeeded, fewCells, roomTests, orNoOrder, planFor, carriedOut, plan}
 use Rattle.model.specs.Figures.{SheetApplies, Before, AnswersBy}
 use Rattle.model.proofs.Tools.Tests.{or-true, not-less}
 use Rattle.model.proofs.Tools.Folds.{length-mapBelow, mapBelow-at}
-use Rattle.model.proofs.Tools.Refusing.{refused≢accepted, refused-number, accepted-value, returned, returned-refusal, AllPass, Applies}
-use Rattle.model.proofs.Tools.Refusing.{accepted-pass, refused-applies}
+use Rattle.model.proofs.Tools.Refusing.{refused≢accepted, refused-number, accepted-value, returned, returned-refusal, AllPass, Applies, accepted-pass, refused-applies}
 use Rattle.model.proofs.Tools.Refusing.{refuse-append, pass-append, applies-append, applies-before, answers-by}
 use Rattle.model.proofs.Theory.Cheapest.{cheapest-solution}
 use Rattle.model.proofs.Theory.Solutions.{solution, solution-length}
 use Rattle.model.proofs.Bytes.PlanBytes.{length-is}
-use Rattle.model.proofs.Calls.Reading.{Reads, all-reads, reads-then, accepted-reads, sheet-within}
-use Rattle.model.proofs.Calls.{Figures.sheet-applies, Figures.reading-answers, Figures.planning-answers, Interface.left-alone}
-use Rattle.model.proofs.Calls.Planning.{has-plan, planned}
+use Rattle.model.proofs.Calls.Reading.{Reads, all-reads, reads-then, accepted-reads}
+use Rattle.model.proofs.Calls.{Figures.sheet-applies, Figures.reading-answers, Figures.planning-answers, Interface.left-alone, Planning.has-plan}
 use Rattle.rank.specs.Binomials.{mostLists}
 use Rattle.rank.proofs.Binomials.{two-layers-less, two-layers-same-1, two-layers-same-2}
-use Rattle.layers.specs.Layers.{layerCells, OpenCell, LayerFilled}
-use Rattle.price.specs.Pricing.{shortLayer, layerTests, unlessShort, Price, priceOf, priceIn, price, LayerAfter, LayersAfter}
-use Rattle.price.specs.Pricing.{priceRow, RowPlace, rowPlace}
+use Rattle.kernel_layers.specs.Layers.{layerCells, OpenCell, LayerFilled}
+use Rattle.price.specs.Pricing.{shortLayer, layerTests, unlessShort, Price, priceOf, priceIn, price, LayerAfter, LayersAfter, priceRow, RowPlace, rowPlace}
 use Rattle.price.specs.Pricing.{priceCost, priceStart, rowLayer, rowCells}
 use Rattle.price.specs.Claims.{PricingApplies, pricingOrder, EitherShort, PricingHolds, PriceIsPlan, SameLeft, LentOrCost, rowTold, RowHandedBack, LayersLeft}
 use Rattle.price.specs.Claims.{FewerCells}
@@ -74,13 +68,7 @@ module _ (b : List ℕ) (even odd : ℕ) where
       (priceOf (decode b) (x .0), ap (λ o. priceIn (decode b) (orNoOrder o)) (x .1)))
       (λ r n. pricing-applies r))
 
-  -- a number of the sheet's own is below 22, and none applies to a sheet that reads
-  own-number : (r : ℕ) → PricingApplies b even odd r → (r < 22) ⊎ ((r ≡ 22) × EitherShort b even odd)
-  unfolding decode decodeBy entries lineAt
-  own-number r (PricingApplies.sheet s) = inl (omega (arith, sheet-within b r (sheet-applies b r .1 s) .1))
-  own-number r (PricingApplies.even22 e l) = inr (e, inl l)
-  own-number r (PricingApplies.odd22 e l) = inr (e, inr l)
-
+  -- only 22 is left for a sheet that reads
   left : status (readSheet b) ≡ 0 → (r : ℕ) → PricingApplies b even odd r → (r ≡ 22) × EitherShort b even odd
   unfolding decode decodeBy entries lineAt
   left z r (PricingApplies.sheet s) = absurd (reading-answers b .returns-0 .0 z r s)
@@ -92,17 +80,17 @@ module _ (b : List ℕ) (even odd : ℕ) where
   right (inl l) = PricingApplies.even22 refl l
   right (inr l) = PricingApplies.odd22 refl l
 
-  -- and is tested before it
+  -- a number of the sheet's own is tested before it
   earlier : (n : ℕ) → SheetApplies b n → Before pricingOrder n 22
   unfolding sheetTests
   earlier n s = applies-before (sheetTests b) (22 ∷ []) n (sheet-applies b n .1 s)
 
   gets : (price b even odd ≡ refused 22) ↔ ((status (readSheet b) ≡ 0) × EitherShort b even odd)
   gets = (
-    (λ e. let p = answers .refuses 22 .0 e in (
-      reading-answers b .returns-0 .1 (λ n s. p .1 n (earlier n s) (PricingApplies.sheet s)),
-      ⊎-elim (λ l. absurd (omega arith)) (λ k. k .1) (own-number 22 (p .0)),
-    )),
+    (λ e.
+        let p = answers .refuses 22 .0 e in
+        let z = reading-answers b .returns-0 .1 (λ n s. p .1 n (earlier n s) (PricingApplies.sheet s)) in
+        (z, left z 22 (p .0) .1)),
     (λ h. answers .refuses 22 .1 (right (h .1), λ n l a. omega (arith, l, ap (λ (x : ℕ). indexOf x pricingOrder) (left (h .0) n a .0)))),
   )
 
@@ -306,16 +294,12 @@ module _ (b even odd even' odd' : List ℕ) where
 
 -- ---- fewer cells
 
-fewer : (S : Sheet) → 1 ≤ S .points → 3 ≤ S .tasks → 2 * layerCells S < cellsNeeded S
-unfolding layerCells cellsNeeded
-fewer S p l =
-    let less : 2 * mostLists (S .tasks) + 1 ≤ 2 ^ S .tasks = omega (arith, two-layers-less (S .tasks) l) in
-    omega (arith, p, mul-le-mul-right (S .points) less)
-
 pub fewer-cells : (S : Sheet) → FewerCells S
 unfolding layerCells cellsNeeded
 fewer-cells S = record {
-  three-on = fewer S;
+  three-on = λ p l.
+      let less : 2 * mostLists (S .tasks) + 1 ≤ 2 ^ S .tasks = omega (arith, two-layers-less (S .tasks) l) in
+      omega (arith, mul-le-mul-right (S .points) less);
   one-or-two = ⊎-elim
       (λ (e : S .tasks ≡ 1). rw e (omega (arith, ap (λ (n : ℕ). n * S .points) two-layers-same-1)))
       (λ (e : S .tasks ≡ 2). rw e (omega (arith, ap (λ (n : ℕ). n * S .points) two-layers-same-2)));

@@ -7,13 +7,12 @@ use Rattle.model.proofs.Tools.Tests.{or-left, or-right, by-test}
 use Rattle.model.proofs.Tools.Refusing.{refused≢accepted, accepted-value, returned-0, accepted-pass, refused-applies, refuse-append, refuses-alike}
 use Rattle.model.proofs.Calls.Reading.{Reads, reads-then, counts-read, accepted-reads, refused-reads, refused-alike}
 use Rattle.model.proofs.Calls.Planning.{has-plan}
-use Rattle.view.specs.declared.View.{View}
-use Rattle.view.specs.Views.{Viewed}
+use Rattle.view.specs.{declared.View.View, Views.Viewed}
 use Rattle.view.proofs.Counted.{tasks-are, points-are}
 use Rattle.rank.specs.Ranks.{mostListsOf}
 use Rattle.rank.proofs.Binomials.{most-of}
-use Rattle.layers.specs.Layers.{layerCells}
-use Rattle.layers.proofs.Layering.{row-within}
+use Rattle.kernel_layers.specs.Layers.{layerCells}
+use Rattle.kernel_layers.proofs.Layering.{row-within}
 use Rattle.price.specs.Pricing.{shortLayer, layerTests, unlessShort, priceOf, priceIn, price, layerOf, priceRow, RowPlace, rowPlace}
 
 pub record Fits (b : List ℕ) (even odd : ℕ) : Type 0 where

@@ -28,7 +28,7 @@ use Rattle.model.specs.Demands.{SheetNumber}
 use Rattle.model.specs.Figures.{tasksStated, pointsStated, SheetApplies, sheetOrder, AnswersBy}
 use Rattle.rank.specs.Binomials.{mostLists}
 use Rattle.rank.specs.Ranks.{rank}
-use Rattle.layers.specs.Layers.{layerCells}
+use Rattle.kernel_layers.specs.Layers.{layerCells}
 use Rattle.price.specs.Pricing.{Price, price, priceRow, rowPlace, priceCost, priceStart, rowLayer, rowCells}
 
 -- ---- what the numbers of pricing mean: "each layer needs B times P cells"; "22, either layer too short, tested after all the sheet's own numbers"

@@ -8,7 +8,7 @@ use Rattle.model.specs.Plans.{costToGo}
 use Rattle.model.specs.Answer.{Answer, refused, accepted, status}
 use Rattle.model.specs.SheetLayout.{decode}
 use Rattle.model.specs.Examples.{sheetA, headOf, likeA, pairBytes, aboard}
-use Rattle.layers.specs.Layers.{layerCells}
+use Rattle.kernel_layers.specs.Layers.{layerCells}
 use Rattle.price.specs.Pricing.{Price, price, priceRow, RowPlace, rowPlace}
 
 -- it answers that cost and that start

@@ -12,7 +12,7 @@ use Rattle.model.specs.Answer.{Answer, refused, accepted, Test, _when_, refuseF
 use Rattle.model.specs.SheetLayout.{decode}
 use Rattle.model.specs.Faults.{unlessFault}
 use Rattle.model.specs.Planning.{orNoOrder}
-use Rattle.layers.specs.Layers.{layerCells, LayerFilled}
+use Rattle.kernel_layers.specs.Layers.{layerCells, LayerFilled}
 
 -- ---- room
 

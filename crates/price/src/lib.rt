@@ -6,16 +6,20 @@ ghost use Prim.Native.Nat.{_%_, _≤_};
 ghost use lib.Dec.{eqb};
 ghost use lib.ListN.{length, take};
 ghost use Rattle.model.specs.Answer.{status};
-ghost use Rattle.model.specs.SheetLayout.{decode};
+ghost use Rattle.model.specs.Sheet.{Sheet};
 ghost use Rattle.model.specs.Faults.{readSheet};
 ghost use Rattle.view.specs.Views.{viewOf};
-ghost use Rattle.start.specs.Choosing.{startCost, firstStart, Startable};
-ghost use Rattle.layers.specs.Layers.{layerCells, LayerFilled};
+ghost use Rattle.kernel_start.specs.Choosing.{startCost, firstStart, Startable};
 ghost use Rattle.price.specs.Pricing.{price, LayersAfter, priceRow, rowPlace};
 ghost use Rattle.price.specs.Answers.{answerOf, placeOf, viewIn};
+use kernel_sheet::MAX_DISTANCES;
+use kernel_sheet::MAX_STARTS;
 use refusal::Refusal;
 use sheet::Reading;
 use view::View;
+
+// One word more than the distances take: the columns then begin at a multiple of 16 bytes, as vectors of two cells like it.
+const COLUMNS: usize = MAX_DISTANCES + 1;
 
 // Whether a sheet can be priced in two layers of so many cells: its view, or the sheet's own refusal, or 22.
 pub enum Fitting {
@@ -78,19 +82,22 @@ fn price_sheet(s: &[u8], v: View, even: &mut [u64], odd: &mut [u64]) -> Pricing
     ensures answer { λ r. ⌜ answerOf r ≡ price (now (s .entry)) (length (now (even .entry))) (length (now (odd .entry))) ⌝ }
     ensures layers { λ r. ⌜ LayersAfter (now (s .entry)) (now (even .entry)) (now (odd .entry)) (now (even .exit)) (now (odd .exit)) ⌝ }
 {
-    layers::fill(s, v, even, odd);
+    let numbers = kernel_prepare::numbers(s, v);
+    let mut columns = [0u64; COLUMNS];
+    kernel_prepare::columns(s, v, &mut columns);
+    kernel_layers::fill(numbers, &columns, even, odd);
     let row = whole(v.tasks, v.points, even, odd);
-    Pricing::Priced(quote_by(s, v, row))
+    let starts = numbers.starts;
+    Pricing::Priced(quote_by(&starts, v.starts, row))
 }
 
 // The quote by the row of the full list: the first start of least cost, and the cost from there.
-fn quote_by(s: &[u8], v: View, row: &[u64]) -> Quote
-    requires { ⌜ Startable (now s) v (now row) ⌝ }
-    ensures start { λ r. ⌜ some (r .start) ≡ firstStart (decode (now (s .entry))) (now (row .entry)) ⌝ }
-    ensures cost { λ r. ⌜ r .cost ≡ startCost (decode (now (s .entry))) (now (row .entry)) (r .start) ⌝ }
+fn quote_by(starts: &[u16; MAX_STARTS], n: u16, row: &[u64]) -> Quote
+    requires { ⌜ ((S : Sheet) × Startable S (now starts) n (now row)) ⌝ }
+    ensures { λ r. ⌜ ((S : Sheet) → Startable S (now (starts .entry)) n (now (row .entry)) → (some (r .start) ≡ firstStart S (now (row .entry))) × (r .cost ≡ startCost S (now (row .entry)) (r .start))) ⌝ }
 {
-    let start = start::first_start(s, v, row);
-    let p = view::start_point(s, v, start) as usize;
+    let start = kernel_start::first_start(starts, n, row);
+    let p = starts[start as usize] as usize;
     Quote {
         cost: row[p],
         start: start,

@@ -9,7 +9,7 @@ use Rattle.model.proofs.Tools.Arrays.{map-set}
 use Rattle.model.proofs.TaskLists.Masks.{bit-none, bit-above, without-same, without-other, without-le, without-none, size-without, size-le}
 use Rattle.model.proofs.TaskLists.Masks.{same-members, by-bit}
 use Rattle.rank.specs.Binomials.{binomial}
-use Rattle.rank.specs.Ranks.{rank, rankPart, binomialRank, maxRanked, rankOf, rankRows}
+use Rattle.rank.specs.Ranks.{rank, rankPart, binomialRank, maxRanked, rankOf, rankEnds}
 use Rattle.rank.proofs.Sums.{sum-differ}
 use Rattle.rank.proofs.Sizes.{size-cong}
 use Rattle.rank.proofs.Counting.{part-cong, rank-by-binomials, rank-le}
@@ -119,7 +119,7 @@ pub rank-small : (K : ℕ) → rankOf K < 2 ^ maxRanked
 unfolding rankOf
 rank-small K = let l : K % 2 ^ maxRanked < 2 ^ maxRanked = mod-lt K (pow-pos maxRanked) in lt-of-le-of-lt (rank-le maxRanked _ l) l
 
-pub row-fits : {r P : ℕ} → r < 2 ^ 16 → P < 2 ^ 16 → r * P < 2 ^ 32
+pub row-fits : {r P : ℕ} → r < 2 ^ 16 → P < 2 ^ 16 → r * P + P < 2 ^ 33
 row-fits {r} {P} h l = omega (arith, mul-le-mul-right P h)
 
 -- the first n tasks of K without t
@@ -136,9 +136,9 @@ rank-without : (K t : ℕ) → t < maxRanked → rankOf (without K t) ≡ rank m
 unfolding rankOf
 rank-without K t h = ap (rank maxRanked) (first-without maxRanked K t h)
 
--- where the row of K without t begins, if t is done, and K's own until then
+-- where the row of K without t ends, if t is done, and K's own until then
 abbrev rowWhile : ℕ → ℕ → ℕ → ℕ → ℕ
-rowWhile P K left t = cond (member left t) (rankOf K * P) (rankOf (without K t) * P)
+rowWhile P K left t = cond (member left t) (rankOf K * P + P) (rankOf (without K t) * P + P)
 
 abbrev pub rowsWhile : ℕ → ℕ → ℕ → List ℕ
 rowsWhile P K left = mapBelow maxRanked (rowWhile P K left)
@@ -148,18 +148,18 @@ unfolding mapBelow
 rows-cong f g h = flat-cong maxRanked _ _ (λ j l. ap (λ (x : ℕ). x ∷ []) (h j l))
 
 -- what is not a task of K is done from the start, and its row is K's own
-pub rows-none : (P K own : ℕ) → own ≡ rankOf K * P → mapBelow maxRanked (λ j. own) ≡ rowsWhile P K (K % 2 ^ maxRanked)
-rows-none P K own e = rows-cong _ _ (λ j l. e ∙ by-bit K j
+pub rows-none : (P K r : ℕ) → r ≡ rankOf K → mapBelow maxRanked (λ j. r * P + P) ≡ rowsWhile P K (K % 2 ^ maxRanked)
+rows-none P K r e = rows-cong _ _ (λ j l. ap (λ (x : ℕ). x * P + P) e ∙ by-bit K j
     (λ w. rw (bit-first maxRanked K j l, w, without-none K j w))
     (λ w. rw (bit-first maxRanked K j l, w)))
 
 -- r is the rank that the code has of the list without t
 pub rows-one : (P K left t r : ℕ) → t < maxRanked → r ≡ rank maxRanked (without (K % 2 ^ maxRanked) t)
-    → set (rowsWhile P K left) t (r * P) ≡ rowsWhile P K (without left t)
+    → set (rowsWhile P K left) t (r * P + P) ≡ rowsWhile P K (without left t)
 rows-one P K left t r h e =
-    let now : r * P ≡ rowWhile P K (without left t) t = rw (without-same left t, rank-without K t h) (ap (λ (x : ℕ). x * P) e) in
+    let now : r * P + P ≡ rowWhile P K (without left t) t = rw (without-same left t, rank-without K t h) (ap (λ (x : ℕ). x * P + P) e) in
     rw now (map-set maxRanked t (rowWhile P K left) (rowWhile P K (without left t)) h (λ j o. rw (without-other left t j o)))
 
-pub rows-all : (P K left : ℕ) → left ≡ 0 → rowsWhile P K left ≡ rankRows P K
-unfolding rankRows
+pub rows-all : (P K left : ℕ) → left ≡ 0 → rowsWhile P K left ≡ rankEnds P K
+unfolding rankEnds
 rows-all P K left z = rows-cong _ _ (λ j l. rw (z, bit-none j))

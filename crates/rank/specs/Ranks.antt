@@ -2,7 +2,7 @@
 use mathlib.Core.Path.{_≡_}
 use mathlib.Core.Bool.{Bool, cond, _&&_}
 use mathlib.Core.List.{List, []}
-use Prim.Native.Nat.{ℕ, suc, _*_, _%_, _^_, _≤_, _<_}
+use Prim.Native.Nat.{ℕ, suc, _+_, _*_, _%_, _^_, _≤_, _<_}
 use lib.Dec.{eqb, ltb, leb}
 use lib.ListN.{getD}
 use Rattle.model.specs.Folds.{sumBelow, countBelow, mapBelow}
@@ -43,9 +43,9 @@ rankOf K = rank maxRanked (K % 2 ^ maxRanked)
 unfoldable pub mostListsOf : ℕ → ℕ
 mostListsOf n = cond (leb n maxRanked) (mostLists n) 0
 
--- where the row of K without each task begins, in a layer with a row of P cells for each rank
-unfoldable pub rankRows : ℕ → ℕ → List ℕ
-rankRows P K = mapBelow maxRanked (λ t. rankOf (without K t) * P)
+-- where the row of K without each task ends, in a layer with a row of P cells for each rank
+unfoldable pub rankEnds : ℕ → ℕ → List ℕ
+rankEnds P K = mapBelow maxRanked (λ t. rankOf (without K t) * P + P)
 
 -- L comes next of K's size: above it, with as many of the n tasks, and no list of that size between
 pub record NextOfSize (n K L : ℕ) : Type 0 where

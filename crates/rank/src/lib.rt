@@ -4,7 +4,7 @@ ghost use Prim.Native.Nat.{_*_, _^_, _≤_, _<_};
 ghost use Rattle.model.specs.TaskList.{size};
 ghost use Rattle.model.specs.Method.{maskBits};
 ghost use Rattle.rank.specs.Binomials.{binomial};
-ghost use Rattle.rank.specs.Ranks.{maxRanked, Tabled, rankOf, mostListsOf, rankRows, NextOfSize};
+ghost use Rattle.rank.specs.Ranks.{maxRanked, Tabled, rankOf, mostListsOf, rankEnds, NextOfSize};
 
 pub const MAX_TASKS: usize = 16;
 
@@ -205,10 +205,10 @@ pub fn rank(table: &Table, k: u32) -> Ranked
     }
 }
 
-// Where the row of a list begins in a layer, and for each task that of the list without it.
+// Where the row of a list begins in a layer, and for each task where that of the list without it ends.
 pub struct ListRows {
     pub own: usize,
-    pub rests: [usize; MAX_TASKS],
+    pub ends: [usize; MAX_TASKS],
 }
 
 // The rows of list k, each of so many cells. Of the list without task t, the tasks above t stand one place lower: so from the highest task down the sum has
@@ -216,26 +216,26 @@ pub struct ListRows {
 pub fn rows(table: &Table, k: u32, points: u16) -> ListRows
     requires { ⌜ Tabled (now table) ⌝ }
     ensures own { λ r. ⌜ r .own ≡ rankOf k * points ⌝ }
-    ensures rests { λ r. ⌜ r .rests ≡ rankRows points k ⌝ }
+    ensures ends { λ r. ⌜ r .ends ≡ rankEnds points k ⌝ }
 {
     let all = rank(table, k);
     let apart = points as usize;
     let own = all.rank as usize * apart;
-    let mut rests = [own; MAX_TASKS];
+    let mut ends = [own + apart; MAX_TASKS];
     let mut left = k % LISTS;
     let mut sum = all.rank;
     let mut i = all.size;
     while left != 0 {
         let t = 31 - u32::leading_zeros(left);
         let rest = sum - binomial(table, t as usize, i);
-        rests[t as usize] = rest as usize * apart;
+        ends[t as usize] = rest as usize * apart + apart;
         i = i - 1;
         sum = rest + binomial(table, t as usize, i);
         left = tasklist::without(left, t as u16);
     }
     ListRows {
         own: own,
-        rests: rests,
+        ends: ends,
     }
 }
 

@@ -12,12 +12,11 @@ use Rattle.model.proofs.Theory.Solutions.{door-in}
 use Rattle.model.proofs.Theory.Meanings.{mask-means}
 use Rattle.model.proofs.Theory.Charges.{cost-parts}
 use Rattle.model.proofs.Bytes.Widths.{Widths}
-use lib.Signed.{mag, nonNeg}
+use lib.Signed.{mag, nonNeg, natAbs-le}
 use mir.Syntax.{w64}
 use mir.Val.{Fits, SFits, toZ, ofZ}
 use mir.ValLaws.{toZ-pos}
 use Rattle.view.specs.declared.View.{View}
-use Rattle.cost.proofs.Loads.{cast-fits}
 use Rattle.route.specs.Routes.{pointBefore, openAt, Costable}
 use Rattle.route.proofs.Joining.{load-none, load-fits, HoldsLoad, grown, join-fits, join-load}
 
@@ -146,7 +145,8 @@ module _ {b : List ℕ} {v : View} {p : ℕ} {ds ts : List ℕ} {j sum held : �
 
     pub load-cast : T (nonNeg (toZ w64 (ofZ w64 (grown held x)))) × Fits w64 (natAbs (toZ w64 (ofZ w64 (grown held x))))
     load-cast =
-        cast-fits (load-next .is) (t .asked .loads j inside) (load-fits (decode b) (t .widths) (t .asked .tasks) (openAt (decode b) ds j))
+        let small = natAbs-le (load (decode b) (openAt (decode b) ds j)) {H = 2 ^ 63} (load-fits (decode b) (t .widths) (t .asked .tasks) (openAt (decode b) ds j)) in
+        rw (load-next .is) (t .asked .loads j inside, record { fits = omega (arith, small) })
 
     -- from, a and y are what the code has for where the van stands, the arrival point and the distance
     module _ {from a y : ℕ} (hf : from ≡ pointBefore (decode b) p ds j) (ha : a ≡ decode b .arrive (getD ds j 0))

@@ -71,7 +71,7 @@ struck w K j l h = rw one-bit (omega (arith, apart w K (2 ^ j) h (pow-lt l), tak
 
 -- ---- tasks in both lists
 
-bit-and : (K L j : ℕ) → bit (bitAnd K L) j ≡ min (bit K j) (bit L j)
+pub bit-and : (K L j : ℕ) → bit (bitAnd K L) j ≡ min (bit K j) (bit L j)
 unfolding bit
 bit-and K L j = rw and-shr (omega (arith, and-step (K / 2 ^ j) (L / 2 ^ j)))
 

@@ -1,8 +1,9 @@
--- Bytes written into a buffer, one part behind the other, and the bytes of a number in two parts. Assumes nothing.
-use Rattle.model.proofs.Basics.{_≡_, refl, sym, ap, ap₂, _∙_, List, [], _∷_, _++_, ℕ, zero, suc, _+_, _*_, _/_, _%_, _^_, _≤_, _<_}
+-- Bytes written into a buffer, one part behind the other, and each element afterwards; and the bytes of a number in two parts. Assumes nothing.
+use Rattle.model.proofs.Basics.{_≡_, refl, sym, ap, ap₂, _∙_, List, [], _∷_, _++_, ℕ, zero, suc, _+_, _-_, _*_, _/_, _%_, _^_, _≤_, _<_}
 use Rattle.model.proofs.Basics.{zero-add, add-zero, pow-succ', div-one, div-div-eq-div-mul, suc-add, add-suc, mul-assoc, pow-suc}
 use Rattle.model.proofs.Basics.{mod-add-div', arith, leb, length, set, length-append, sets, length-sets, sets-eq, leb-true, le-leb}
-use Rattle.model.proofs.Basics.{lt-leb}
+use Rattle.model.proofs.Basics.{lt-leb, getD, take, drop, length-take-le, getD-take, List·getD-append}
+use lib.Seq.{getD-drop, getD-append-add}
 use Rattle.model.specs.{bytesOf, overwrite, overwriteAt}
 use Rattle.model.proofs.{Bytes.Numbers.length-bytesOf, Tools.Tests.by-test}
 
@@ -77,3 +78,37 @@ pub over-number : (j k n i : ℕ) (b : List ℕ) → i + j + k ≤ length b
     → overwriteAt (i + j) (bytesOf k (n / 256 ^ j)) (overwriteAt i (bytesOf j n) b) ≡ overwriteAt i (bytesOf (j + k) n) b
 over-number j k n i b h =
     rw (bytes-split j k n, ← over-on i (bytesOf j n) (bytesOf k (n / 256 ^ j)) b (simp length-bytesOf h), length-bytesOf)
+
+-- ---- an element of what was overwritten
+
+module _ (at : ℕ) (xs buf : List ℕ) (fits : at + length xs ≤ length buf) where
+  front : length (take at buf) ≡ at
+  front = length-take-le at buf (omega arith)
+
+  -- below the part that was written
+  pub over-below : (i : ℕ) → i < at → getD (overwriteAt at xs buf) i 0 ≡ getD buf i 0
+  unfolding overwriteAt
+  over-below i l = rw (le-leb (at + length xs) (length buf) fits)
+      (List·getD-append (take at buf ++ xs) _ 0 i (rw length-append (omega (arith, front)))
+      ∙ List·getD-append (take at buf) xs 0 i (omega (arith, front))
+      ∙ getD-take at buf i 0 l)
+
+  -- in it
+  pub over-in : (j : ℕ) → j < length xs → getD (overwriteAt at xs buf) (at + j) 0 ≡ getD xs j 0
+  unfolding overwriteAt
+  over-in j l = rw (le-leb (at + length xs) (length buf) fits)
+      (List·getD-append (take at buf ++ xs) _ 0 (at + j) (rw length-append (omega (arith, front)))
+      ∙ ap (λ (n : ℕ). getD (take at buf ++ xs) (n + j) 0) (sym front)
+      ∙ getD-append-add (take at buf) xs j 0)
+
+  -- and beyond it
+  pub over-beyond : (i : ℕ) → at + length xs ≤ i → getD (overwriteAt at xs buf) i 0 ≡ getD buf i 0
+  unfolding overwriteAt
+  over-beyond i l =
+      let m : ℕ = i - (at + length xs) in
+      let e : i ≡ length (take at buf ++ xs) + m = rw length-append (omega (arith, front)) in
+      rw (le-leb (at + length xs) (length buf) fits)
+      (ap (λ (n : ℕ). getD (take at buf ++ xs ++ drop (at + length xs) buf) n 0) e
+      ∙ getD-append-add (take at buf ++ xs) (drop (at + length xs) buf) m 0
+      ∙ getD-drop (at + length xs) buf m 0
+      ∙ ap (λ (n : ℕ). getD buf n 0) (omega arith))

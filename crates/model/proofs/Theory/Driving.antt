@@ -1,16 +1,15 @@
 -- Finishing a round of a sheet that can be planned: Bellman's equation for a sheet, and the first door of the cheapest completion, as driving is a process
 -- whose every choice leads to a completion. Assumes nothing.
 use Rattle.model.proofs.Basics.{_≡_, sym, ap, _∙_, subst, subst₂, fun-ext, true, List, [], _∷_, map, List·Memᴰ, List·Memᴰ·not-nil}
-use Rattle.model.proofs.Basics.{some, ℕ, suc, _+_, _^_, _≤_, _<_, lt-of-le-of-lt, arith, areBytes}
-use Rattle.model.specs.{Sheet.Sheet, least, without, size, canComeFirst, firstDoors, stepCost, isCompletion, completions}
-use Rattle.model.specs.{costToGo, cheapestCompletion, decode, CountsWithin, Plannable}
+use Rattle.model.proofs.Basics.{some, ℕ, suc, _+_, _^_, _≤_, _<_, arith}
+use Rattle.model.specs.{Sheet.Sheet, least, without, size, canComeFirst, firstDoors, stepCost, cost, isCompletion, completions}
+use Rattle.model.specs.{costToGo, cheapestCompletion, Plannable}
 use Rattle.model.proofs.TaskLists.Masks.{without-le}
 use Rattle.model.proofs.Theory.Process.{runs, toGo, through, bellman, FirstStep, first-step, Process}
 use Rattle.model.proofs.Theory.Completions.{Position, driving, completes-is, completions-are, cost-is, to-go-is, cheapest-is}
 use Rattle.model.proofs.Theory.Completions.{standing}
 use Rattle.model.proofs.Theory.Existence.{part, part-admissible, order-driven}
 use Rattle.model.proofs.Theory.Enumerations.{has-order, completions-enumerated}
-use Rattle.model.proofs.Theory.Bounds.{Limits, sumLimit, WithinLimits, cost-bound, kind1Limits, kind1-sums, kind1-within}
 use Rattle.model.proofs.Theory.Process as process
 
 -- door d, and the cost to go from where it leads
@@ -85,16 +84,10 @@ module _ (S : Sheet) (G : Plannable S) where
             goes-on = cheapest-is S (G .ranges) _ (S .depart (f .choice)) (omega (arith, without-le K (S .task (f .choice)))) ∙ f .goes-on;
           }
 
-    -- what a door costs with the cost to go from where it leads is the cost of a completion, and so within the limits of a sum
-    pub through-bound : (L : Limits) → WithinLimits L S → (d : ℕ) → d < S .doors → canComeFirst S K (S .task d) ≡ true
-        → throughDoor S K p d ≤ sumLimit L
-    through-bound L W d l e = subst (λ (v : ℕ). v ≤ sumLimit L) (through-is d)
-        (process.through-bound D here d l e (live d l e) (sumLimit L)
-        (λ ds h. let c : isCompletion S K ds ≡ true = sym (completes-is S (G .ranges) ds K p) ∙ h in
-        subst (λ (v : ℕ). v ≤ sumLimit L) (cost-is S (G .ranges) ds K p below c) (cost-bound L S W K p ds c)))
-
--- of a sheet of kind 1 it is below 2 ^ 40, as each cost to go is (`to-go-small`, Bounds); nothing is asked of 16
-pub through-small : (b : List ℕ) → areBytes b ≡ true → CountsWithin (decode b) → Plannable (decode b)
-    → (K p d : ℕ) → K < 2 ^ decode b .tasks → d < decode b .doors
-    → canComeFirst (decode b) K (decode b .task d) ≡ true → throughDoor (decode b) K p d < 2 ^ 40
-through-small b h n G K p d below l e = lt-of-le-of-lt (through-bound (decode b) G K p below kind1Limits (kind1-within b h n) d l e) kind1-sums
+    -- what a door costs with the cost to go from where it leads is the cost of a completion: what no completion costs more than, it does not
+    pub through-bound : (c : ℕ) → ((ds : List ℕ) → isCompletion S K ds ≡ true → cost S p ds ≤ c) → (d : ℕ) → d < S .doors → canComeFirst S K (S .task d) ≡ true
+        → throughDoor S K p d ≤ c
+    through-bound c bound d l e = subst (λ (v : ℕ). v ≤ c) (through-is d)
+        (process.through-bound D here d l e (live d l e) c
+        (λ ds h. let a : isCompletion S K ds ≡ true = sym (completes-is S (G .ranges) ds K p) ∙ h in
+        subst (λ (v : ℕ). v ≤ c) (cost-is S (G .ranges) ds K p below a) (bound ds a)))

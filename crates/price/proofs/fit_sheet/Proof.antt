@@ -1,12 +1,10 @@
 -- The sheet reads, so 22 is left, by the cells that each layer has. Assumes nothing.
 use Rattle.model.proofs.Basics.{_≡_, refl, sym, ap, _∙_, _||_, ℕ, _*_, _≤_, ltb, mul-le-mul-right, arith, needs}
 use Rattle.model.specs.{decode}
-use Rattle.model.proofs.Calls.Reading.{Reads}
-use Rattle.model.proofs.Calls.Interface.{reads-sheet}
+use Rattle.model.proofs.Calls.{Reading.Reads, Interface.reads-sheet}
 use Rattle.view.specs.Views.{Viewed}
 use Rattle.view.proofs.Counted.{tasks-are, points-are}
 use Rattle.sheet.proofs.Laid.{viewed, reads-laid}
-use Rattle.layers.specs.Layers.{layerCells}
 use Rattle.price.specs.Pricing.{shortLayer, rowPlace}
 use Rattle.price.proofs.Fits.{needed-is, then-short}
 use Rattle.price.proofs.fit_sheet.Statement.{statement}
@@ -24,16 +22,14 @@ mul-needed c =
     let m : c .before .most-lists .result * n ≤ 4294967295 * n = mul-le-mul-right n (omega arith) in
     omega arith
 
--- the cells that the code counts are those needed
-needed : (c : tie.After-most-lists) → let a = c .before .before .args in c .most-lists .result * a .v .points ≡ layerCells (decode (a .s .now))
-needed c = needed-is (reads (c .before .before)) (seen (c .before .before)) (c .most-lists .ensures)
-
--- so what it finds of the layers is what the definition says
+-- the cells that the code counts are those needed, so what it finds of the layers is what the definition says
 short-is : (c : tie.After-struct-known) →
     let a = c .before .before .before .args in
     let n = c .before .most-lists .result * a .v .points in (ltb (a .even) n || ltb (a .odd) n) ≡ shortLayer (decode (a .s .now)) (a .even) (a .odd)
 unfolding shortLayer
-short-is c = let a = c .before .before .before .args in ap (λ (n : ℕ). ltb (a .even) n || ltb (a .odd) n) (needed (c .before))
+short-is c =
+    let s = c .before .before .before in
+    ap (λ (n : ℕ). ltb (s .args .even) n || ltb (s .args .odd) n) (needed-is (reads s) (seen s) (c .before .most-lists .ensures))
 
 -- a layer is short
 returns : tie.Need-returns

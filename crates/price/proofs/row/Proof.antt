@@ -1,9 +1,9 @@
 -- What fits has the row of the full list in the layer of its parity; what is refused has none. Assumes nothing.
-use Rattle.model.proofs.Basics.{_≡_, sym, ap, _∙_, length, needs}
+use Rattle.model.proofs.Basics.{sym, ap, _∙_, length, needs}
 use Rattle.view.specs.Views.{viewOf, Viewed}
 use Rattle.view.proofs.Counted.{tasks-are, points-are}
 use Rattle.sheet.proofs.Laid.{viewed, reads-laid}
-use Rattle.layers.proofs.Layering.{row-within}
+use Rattle.kernel_layers.proofs.Layering.{row-within}
 use Rattle.price.specs.Pricing.{rowPlace}
 use Rattle.price.specs.Answers.{placeOf, viewIn}
 use Rattle.price.specs.declared.Fitting.{Fitting}

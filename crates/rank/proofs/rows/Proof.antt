@@ -1,5 +1,5 @@
 -- Task by task from the highest, the row of the list without it; the sum then has the task one place lower. Assumes nothing.
-use Rattle.model.proofs.Basics.{_≡_, sym, ap, _∙_, ℕ, _-_, _*_, _%_, _^_, _≤_, _<_, arith, needs}
+use Rattle.model.proofs.Basics.{_≡_, sym, ap, _∙_, ℕ, _+_, _-_, _*_, _%_, _^_, _≤_, _<_, arith, needs}
 use Rattle.model.specs.{mapBelow, without, maskBits}
 use lib.Count.{leadingZeros}
 use Rattle.rank.specs.Ranks.{rank, maxRanked, rankOf}
@@ -11,17 +11,21 @@ use Rattle.rank.proofs.rows.Statement.{statement}
 use Rattle.rank.proofs.rows.Tie as tie
 
 abbrev Inv-loop : tie.InvT-loop
-Inv-loop table k points apart own rests₀ left₀ sum₀ i₀ rests left sum i =
-    (rests ≡ rowsWhile points k left) × Lowering maxRanked (k % 2 ^ maxRanked) left sum i
+Inv-loop table k points apart own ends₀ left₀ sum₀ i₀ ends left sum i =
+    (ends ≡ rowsWhile points k left) × Lowering maxRanked (k % 2 ^ maxRanked) left sum i
 
 abbrev μ-loop : tie.MeasureT-loop
-μ-loop table k points apart own rests₀ left₀ sum₀ i₀ rests left sum i = left
+μ-loop table k points apart own ends₀ left₀ sum₀ i₀ ends left sum i = left
+
+-- the end of the list's own row
+own-fits : (c : tie.After-rank Inv-loop μ-loop) → let points = c .before .args .points in c .rank .result .rank * points + points < 2 ^ 33
+own-fits c = row-fits (rw (c .rank .ensures .0) (rank-small _)) (omega arith)
 
 mul-own : tie.Need-mul-own Inv-loop μ-loop
-mul-own c =
-    let k = c .before .rank in
-    let r : k .result .rank * c .before .before .args .points < 2 ^ 32 = row-fits (rw (k .ensures .0) (rank-small _)) (omega arith) in
-    record { fits = omega arith }
+mul-own c = record { fits = omega (arith, own-fits (c .before)) }
+
+add-ends : tie.Need-add-ends Inv-loop μ-loop
+add-ends c = record { fits = omega (arith, own-fits (c .before)) }
 
 -- before the first turn every row is the list's own
 loop-holds : tie.Need-loop-holds Inv-loop μ-loop
@@ -29,7 +33,7 @@ unfolding rankOf mapBelow
 loop-holds c =
     let a = c .before .before .args in
     let r = c .before .rank .ensures in (
-      rows-none (a .points) (a .k) _ (ap (λ (x : ℕ). x * a .points) (r .0)),
+      rows-none (a .points) (a .k) _ (r .0),
       none-lowered _ _ (omega arith) (r .0) (r .1 ∙ sym (size-mask maxRanked (a .k))),
     )
 
@@ -57,17 +61,22 @@ rest : (c : tie.After-binomial Inv-loop μ-loop) →
     × (x < 2 ^ maxRanked)
 rest c = rest-now (c .before .before .loop .inv .1) (task (c .before)) (c .binomial .ensures)
 
-cast-rests : tie.Need-cast-rests Inv-loop μ-loop
-cast-rests c = omega (arith, rest c .2)
+cast-ends : tie.Need-cast-ends Inv-loop μ-loop
+cast-ends c = omega (arith, rest c .2)
 
-mul-rests : tie.Need-mul-rests Inv-loop μ-loop
-mul-rests c =
-    let l = c .before .before .loop in
-    let r : (l .sum - c .binomial .result) * c .before .before .before .before .before .args .points < 2 ^ 32 = row-fits (rest c .2) (omega arith) in
-    record { fits = omega arith }
+-- and where its row ends
+rest-fits : (c : tie.After-binomial Inv-loop μ-loop) →
+    let points = c .before .before .before .before .before .args .points in (c .before .before .loop .sum - c .binomial .result) * points + points < 2 ^ 33
+rest-fits c = row-fits (rest c .2) (omega arith)
 
-array-write-rests : tie.Need-array-write-rests Inv-loop μ-loop
-array-write-rests c = placed (c .before) .0
+mul-ends : tie.Need-mul-ends Inv-loop μ-loop
+mul-ends c = record { fits = omega (arith, rest-fits c) }
+
+add-ends-2 : tie.Need-add-ends-2 Inv-loop μ-loop
+add-ends-2 c = record { fits = omega (arith, rest-fits c) }
+
+array-write-ends : tie.Need-array-write-ends Inv-loop μ-loop
+array-write-ends c = placed (c .before) .0
 
 sub-i : tie.Need-sub-i Inv-loop μ-loop
 sub-i c = omega (arith, placed (c .before) .2)
@@ -101,6 +110,6 @@ returns c =
     (ap (λ (x : ℕ). x * a .points) (c .before .before .before .rank .ensures .0), l .inv .0 ∙ rows-all (a .points) (a .k) (l .left) (c .loop-test .left))
 
 pub rows-spec : {M : Type 1} → statement M
-rows-spec = tie.close (tie.spec Inv-loop μ-loop (λ c κs. search needs) (λ c. search needs) mul-own loop-holds sub-t (λ c. search needs)
-    binomial-requires (λ c. rest c .0) cast-rests mul-rests (λ c. search needs) (λ c. search needs) array-write-rests sub-i (λ c. search needs)
+rows-spec = tie.close (tie.spec Inv-loop μ-loop (λ c κs. search needs) (λ c. search needs) mul-own add-ends loop-holds sub-t (λ c. search needs)
+    binomial-requires (λ c. rest c .0) cast-ends mul-ends add-ends-2 (λ c. search needs) (λ c. search needs) array-write-ends sub-i (λ c. search needs)
     binomial-requires-2 add-sum (λ c. search needs) (λ c κs. search needs) loop-less loop-again returns)

@@ -1,4 +1,0 @@
-pub mod NextDoor
-pub mod Finding
-pub mod Choosing
-pub mod Completing

@@ -1,0 +1,4 @@
+pub mod Finding
+pub mod NextDoor
+pub mod Choosing
+pub mod Completing

@@ -1,0 +1,232 @@
+// The two layers of costs to go: a row of P cells for each list of one size, at its rank, the even sizes in one and the odd in the other, size after size.
+ghost use mathlib.Core.Path.{_≡_};
+ghost use Prim.Native.Nat.{_-_, _%_, _≤_};
+ghost use Rattle.model.specs.Sheet.{Sheet};
+ghost use Rattle.kernel_sheet.specs.Prepared.{ReceiversOf, Prepared};
+ghost use Rattle.kernel_bellman.specs.Rests.{Listed, Arrayed};
+ghost use Rattle.rank.specs.Ranks.{Tabled};
+ghost use Rattle.kernel_layers.specs.Layers.{withRow, Shows, ShowsRests, Kept, LayerFilled, backsOf, Backable, LayerRests, Roomy};
+use kernel_sheet::Counts;
+use kernel_sheet::MAX_DOORS;
+use kernel_sheet::MAX_RULES;
+use kernel_sheet::MAX_TASKS;
+use kernel_sheet::Numbers;
+use rank::Table;
+
+// How far before the end of its row the cell of the rest behind each of n doors stands.
+fn backs(points: u16, n: u16, depart: &[u16; MAX_DOORS]) -> [u32; MAX_DOORS]
+    requires { ⌜ Backable points n (now depart) ⌝ }
+    ensures { λ r. ⌜ r ≡ backsOf points n (now (depart .entry)) ⌝ }
+{
+    let mut back = [0u32; MAX_DOORS];
+    let mut d: usize = 0;
+    while d < n as usize {
+        back[d] = points as u32 - depart[d] as u32;
+        d = d + 1;
+    }
+    back
+}
+
+// Writes the row of the essential list k into its layer, from the one below, which shows the lists with one task less.
+fn list_row(
+    table: &Table,
+    k: u32,
+    waiting: u32,
+    x: Counts,
+    change: &[i16; MAX_TASKS],
+    sets: &[u64; MAX_TASKS],
+    column: &[u16; MAX_DOORS],
+    work: &[u32; MAX_DOORS],
+    door: &[u16; MAX_RULES],
+    watched: &[u16; MAX_RULES],
+    least: &[u16; MAX_RULES],
+    most: &[u16; MAX_RULES],
+    charge: &[u32; MAX_RULES],
+    columns: &[u64],
+    slot: &[u16; MAX_DOORS],
+    back: &[u32; MAX_DOORS],
+    sums: &mut [u64; MAX_DOORS],
+    begins: &mut [u16; MAX_DOORS],
+    parts: &mut [u64; MAX_DOORS],
+    below: &[u64],
+    here: &mut [u64],
+)
+    requires { ⌜ Tabled (now table) × ((S : Sheet) × Listed S x k waiting (now change) (now sets) (now column) (now work) (now door) (now watched) (now least) (now most) (now charge) (now columns) × LayerRests S (now slot) (now back) × Roomy S (now below) (now here) × ShowsRests S k (now below)) ⌝ }
+    ensures { λ _. ⌜ ((S : Sheet) → Listed S x k waiting (now (change .entry)) (now (sets .entry)) (now (column .entry)) (now (work .entry)) (now (door .entry)) (now (watched .entry)) (now (least .entry)) (now (most .entry)) (now (charge .entry)) (now (columns .entry)) → LayerRests S (now (slot .entry)) (now (back .entry)) → ShowsRests S k (now (below .entry)) → now (here .exit) ≡ withRow S k (now (here .entry))) ⌝ }
+{
+    let rows = rank::rows(table, k, x.points);
+    let ends = rows.ends;
+    let hand = kernel_list::open(
+        x,
+        k,
+        waiting,
+        change,
+        sets,
+        work,
+        door,
+        watched,
+        least,
+        most,
+        charge,
+        sums,
+    );
+    let m = kernel_gather::gather(
+        hand.doors,
+        column,
+        sums,
+        slot,
+        back,
+        &ends,
+        below,
+        begins,
+        parts,
+    );
+    let from = rows.own;
+    let end = from + x.points as usize;
+    kernel_row::row(columns, hand.load, m, begins, parts, &mut here[from..end]);
+}
+
+// Writes the rows of the essential lists of m tasks, in the order of their numbers.
+fn size_rows(
+    table: &Table,
+    m: u16,
+    receivers: &[u32; MAX_TASKS],
+    x: Counts,
+    change: &[i16; MAX_TASKS],
+    sets: &[u64; MAX_TASKS],
+    column: &[u16; MAX_DOORS],
+    work: &[u32; MAX_DOORS],
+    door: &[u16; MAX_RULES],
+    watched: &[u16; MAX_RULES],
+    least: &[u16; MAX_RULES],
+    most: &[u16; MAX_RULES],
+    charge: &[u32; MAX_RULES],
+    columns: &[u64],
+    slot: &[u16; MAX_DOORS],
+    back: &[u32; MAX_DOORS],
+    sums: &mut [u64; MAX_DOORS],
+    begins: &mut [u16; MAX_DOORS],
+    parts: &mut [u64; MAX_DOORS],
+    below: &[u64],
+    here: &mut [u64],
+)
+    requires { ⌜ Tabled (now table) × ((S : Sheet) × Arrayed S x (now change) (now sets) (now column) (now work) (now door) (now watched) (now least) (now most) (now charge) (now columns) × ReceiversOf S (now receivers) × LayerRests S (now slot) (now back) × Roomy S (now below) (now here) × (1 ≤ m) × (m ≤ S .tasks) × Shows S (m - 1) (now below)) ⌝ }
+    ensures { λ _. ⌜ ((S : Sheet) → Arrayed S x (now (change .entry)) (now (sets .entry)) (now (column .entry)) (now (work .entry)) (now (door .entry)) (now (watched .entry)) (now (least .entry)) (now (most .entry)) (now (charge .entry)) (now (columns .entry)) → ReceiversOf S (now (receivers .entry)) → LayerRests S (now (slot .entry)) (now (back .entry)) → Shows S (m - 1) (now (below .entry)) → Shows S m (now (here .exit)) × Kept S (m % 2) (now (here .entry)) (now (here .exit))) ⌝ }
+{
+    let lists = tasklist::lists(x.tasks);
+    let mut k = tasklist::full(m);
+    while k < lists {
+        let waiting = kernel_list::waiting(receivers, k);
+        if kernel_list::has_all(k, waiting) {
+            list_row(
+                table,
+                k,
+                waiting,
+                x,
+                change,
+                sets,
+                column,
+                work,
+                door,
+                watched,
+                least,
+                most,
+                charge,
+                columns,
+                slot,
+                back,
+                sums,
+                begins,
+                parts,
+                below,
+                here,
+            );
+        }
+        k = rank::next(k);
+    }
+}
+
+// Fills the layers: the end costs, then size after size the rows of its lists. A layer is overwritten only when the one above has been filled from it.
+pub fn fill(x: Numbers, columns: &[u64], even: &mut [u64], odd: &mut [u64])
+    requires { ⌜ ((S : Sheet) × Prepared S x (now columns) × Roomy S (now even) (now odd)) ⌝ }
+    ensures { λ _. ⌜ ((S : Sheet) → Prepared S x (now (columns .entry)) → LayerFilled S 0 (now (even .entry)) (now (even .exit)) × LayerFilled S 1 (now (odd .entry)) (now (odd .exit))) ⌝ }
+{
+    let counts = x.counts;
+    let tasks = x.tasks;
+    let doors = x.doors;
+    let rules = x.rules;
+    let ends = x.ends;
+    let change = tasks.change;
+    let receivers = tasks.receivers;
+    let sets = tasks.doors;
+    let column = doors.column;
+    let task = doors.task;
+    let depart = doors.depart;
+    let work = doors.work;
+    let door = rules.door;
+    let watched = rules.watched;
+    let least = rules.least;
+    let most = rules.most;
+    let charge = rules.charge;
+    let points = counts.points as usize;
+    kernel_row::end_row(&ends, &mut even[..points]);
+    let back = backs(counts.points, counts.doors, &depart);
+    let mut sums = [0u64; MAX_DOORS];
+    let mut begins = [0u16; MAX_DOORS];
+    let mut parts = [0u64; MAX_DOORS];
+    let table = rank::pascal();
+    let n = counts.tasks;
+    let mut m: u16 = 0;
+    while m < n {
+        m = m + 1;
+        if m % 2 == 0 {
+            size_rows(
+                &table,
+                m,
+                &receivers,
+                counts,
+                &change,
+                &sets,
+                &column,
+                &work,
+                &door,
+                &watched,
+                &least,
+                &most,
+                &charge,
+                columns,
+                &task,
+                &back,
+                &mut sums,
+                &mut begins,
+                &mut parts,
+                odd,
+                even,
+            );
+        } else {
+            size_rows(
+                &table,
+                m,
+                &receivers,
+                counts,
+                &change,
+                &sets,
+                &column,
+                &work,
+                &door,
+                &watched,
+                &least,
+                &most,
+                &charge,
+                columns,
+                &task,
+                &back,
+                &mut sums,
+                &mut begins,
+                &mut parts,
+                even,
+                odd,
+            );
+        }
+    }
+}

@@ -1,0 +1,5 @@
+pub mod Walks
+pub mod Unions
+pub mod Loads
+pub mod Charges
+pub mod Opening

@@ -1,0 +1,4 @@
+pub mod Padding
+pub mod Joining
+pub mod Entries
+pub mod Held

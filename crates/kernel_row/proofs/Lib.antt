@@ -1,0 +1,3 @@
+pub mod Lowering
+pub mod Minimums
+pub mod Passes
