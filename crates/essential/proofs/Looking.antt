@@ -1,7 +1,7 @@
 -- The lists one by one, from the empty one on: the sum is the load of the list, and none so far is essential with a load below zero. Assumes nothing.
 use Rattle.model.proofs.Basics.{_≡_, refl, sym, ap, ap₂, _∙_, Bool, true, false, _&&_, and-false, and-true, List, ℕ, zero, suc, _+_, _-_, _^_, _≤_, _<_, arith, getD}
 use Rattle.model.proofs.Basics.{ℤ, pos, _+ℤ_, toZ, ofZ, SFits, toZ-ofZ, toZ-pos, +ℤ-idr, ltZ}
-use Rattle.model.specs.{mapBelow, bit, loadBelow, load, essential, lightList, tooLight, maxTasks, maskBits, sendersOf, InRange}
+use Rattle.model.specs.{mapBelow, loadBelow, load, essential, lightList, tooLight, maxTasks, maskBits, sendersOf, InRange}
 use Rattle.model.specs.Sheet.{Sheet}
 use Rattle.model.proofs.Tools.Searches.{Searched, none-tried, next, none-found, found}
 use Rattle.model.proofs.TaskLists.Masks.{bit-none}

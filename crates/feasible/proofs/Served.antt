@@ -1,29 +1,19 @@
 -- The tasks of the doors so far, as a mask: a task is in it where one of those doors is its own. Assumes nothing.
-use Rattle.model.proofs.Basics.{_≡_, refl, sym, ap, _∙_, ⊎-elim, Bool, true, false, not, _&&_, _||_, ℕ, zero, suc, _+_, _≤_, _<_, add-one}
-use Rattle.model.proofs.Basics.{arith, eqb, ltb, eqb-true, eqb-false, ne-eqb, ltb-false, not-true, not-false}
-use Rattle.model.specs.{allBelow, member, with, lacksDoor, maskBits, withIn}
+use Rattle.model.proofs.Basics.{_≡_, refl, sym, ap, _∙_, ⊎-elim, Bool, true, false, not, _&&_, _||_, or-false, ℕ, zero, suc, _+_, _≤_, _<_, add-one}
+use Rattle.model.proofs.Basics.{arith, eqb, ltb, ne-eqb, ltb-false, not-true, not-false}
+use Rattle.model.specs.{allBelow, member, lacksDoor, maskBits, withIn}
 use Rattle.model.specs.Sheet.{Sheet}
-use Rattle.model.proofs.Tools.Tests.{tested, or-true, all-false, one-fails}
-use Rattle.model.proofs.TaskLists.Masks.{bit-none, with-same, with-other}
+use Rattle.model.proofs.Tools.Tests.{tested, all-false, one-fails}
+use Rattle.model.proofs.TaskLists.Masks.{bit-none, member-with}
 use Rattle.feasible.specs.Method.{servedBelow}
 
 -- ---- a task joined to a mask
-
-or-off : (a : Bool) → (a || false) ≡ a
-or-off true = refl
-or-off false = refl
-
-pub member-with : (M x t : ℕ) → member (with M x) t ≡ (member M t || eqb x t)
-member-with M x t = ⊎-elim
-    (λ (w : eqb x t ≡ true). let e : x ≡ t = eqb-true x t w in rw (w, e, with-same, or-true (member M t) true refl))
-    (λ (w : eqb x t ≡ false). rw (w, with-other M x t (λ z. eqb-false x t w (sym z)), or-off))
-    (tested (eqb x t))
 
 member-in : (w M x t : ℕ) → t < w → member (withIn w M x) t ≡ (member M t || eqb x t)
 unfolding withIn
 member-in w M x t l = ⊎-elim
     (λ (h : ltb x w ≡ true). rw h (member-with M x t))
-    (λ (h : ltb x w ≡ false). rw (h, ne-eqb x t (λ z. let b = ltb-false x w h in omega arith), or-off))
+    (λ (h : ltb x w ≡ false). rw (h, ne-eqb x t (λ z. let b = ltb-false x w h in omega arith), or-false))
     (tested (ltb x w))
 
 -- ---- the doors below d

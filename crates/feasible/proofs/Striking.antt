@@ -7,10 +7,9 @@ use Rattle.model.specs.Sheet.{Sheet}
 use Rattle.model.specs.{sendersOf, isFree, canComeFirst, strikeBelow, strikeOff}
 use Rattle.model.proofs.Tools.Tests.{tested, same-test, and-left, and-right, and-both, or-true, none-below, any-true, one-passes}
 use Rattle.model.proofs.Tools.Folds.{mapBelow-at}
-use Rattle.model.proofs.TaskLists.Masks.{bit-none, not-member-bit, without-none, with-in}
+use Rattle.model.proofs.TaskLists.Masks.{bit-none, not-member-bit, without-none, member-with, with-in}
 use native.Mathlib.Decide.{le-ind}
 use Rattle.feasible.specs.Method.{strikeBy, passBy}
-use Rattle.feasible.proofs.Served.{member-with}
 
 -- ---- lists that meet
 

@@ -1,22 +1,22 @@
 -- What is gathered from cells in which the rests of a list stand gives the cost to go with that list open: Bellman's equation, as the code computes it. Assumes nothing.
-use Rattle.model.proofs.Basics.{_≡_, refl, sym, ap, _∙_, true, List, map, ℕ, zero, suc, _+_, _-_, _*_, _^_, _≤_, _<_, arith, length, getD, ltb, ltb-true, lt-ltb}
-use Rattle.model.proofs.Basics.{length-map, pow-pos, ℤ, mul-le-mul-right, take, drop, List·getD-append}
+use Rattle.model.proofs.Basics.{_≡_, refl, sym, ap, _∙_, true, List, map, ℕ, zero, suc, _+_, _-_, _*_, _^_, _≤_, _<_, arith, length, getD, ltb, ltb-true}
+use Rattle.model.proofs.Basics.{length-map, pow-pos, ℤ, mul-le-mul-right, List·getD-append}
 use Rattle.model.specs.{mapBelow, overwrite, without, size, member, essential, pairsAllow, canComeFirst, firstDoors, load, charges, stepCost, costToGo, least}
 use Rattle.model.specs.Sheet.{Sheet}
-use Rattle.model.proofs.Tools.Tests.{and-left, and-right, and-both}
+use Rattle.model.proofs.Tools.Tests.{and-left, and-right}
 use Rattle.model.proofs.Tools.Folds.{mapBelow-cong, length-mapBelow, mapBelow-at}
 use Rattle.model.proofs.Tools.Positions.{map-at}
 use Rattle.model.proofs.TaskLists.Masks.{bit-le, without-is, size-zero}
-use Rattle.model.proofs.Theory.FirstTask.{first-bit, allow-without}
+use Rattle.model.proofs.Theory.FirstTask.{first-bit}
 use Rattle.model.proofs.Theory.Driving.{throughDoor, to-go-by-first, first-door, through-bound}
 use mathlib.Core.Bool.{false≢true, or-true}
 use Rattle.kernel_sheet.specs.Prepared.{BeginsOf, ColumnsOf, Workable}
 use Rattle.kernel_sheet.specs.declared.Counts.{Counts}
 use Rattle.kernel_list.specs.Lists.{Opening, Opened}
-use Rattle.kernel_gather.specs.Gathering.{doorsIn, restAt, partAt, Gatherable}
+use Rattle.kernel_gather.specs.Gathering.{doorsIn, partAt, Gatherable}
 use Rattle.kernel_gather.proofs.Walking.{doors-few, doors-each, doors-in-are}
 use Rattle.kernel_gather.proofs.Passing.{passing-place}
-use Rattle.kernel_row.specs.Leasts.{noCost, entryAt, throughGathered, leastFrom, Gathered, Rowable}
+use Rattle.kernel_row.specs.Leasts.{entryAt, throughGathered, leastFrom, Gathered, Rowable}
 use Rattle.kernel_row.proofs.Minimums.{least-mapped}
 use Rattle.kernel_bellman.specs.Rests.{isFirst, Rests, Listed}
 

@@ -1,11 +1,12 @@
 -- The doors of a set: how many, which, and how a loop walks them, by the lowest door, which is struck off. Assumes nothing.
-use Rattle.model.proofs.Basics.{_≡_, refl, sym, ap, _∙_, _≢_, Bool, true, _&&_, List, [], _∷_, append-nil, ℕ, suc, _+_, _-_, _/_, _^_, _≤_, _<_, min}
+use Rattle.model.proofs.Basics.{_≡_, refl, sym, ap, _∙_, _≢_, Bool, true, _&&_, List, [], _∷_, append-nil, ℕ, suc, _+_, _-_, _^_, _≤_, _<_}
 use Rattle.model.proofs.Basics.{add-zero, lt-of-le-of-lt, arith, eqb, ltb, eqb-true, eqb-false, ltb-true, ltb-false, lt-ltb, le-ltb, le-ind, length, getD, drop}
 use Rattle.model.specs.{passingBelow, bit, member, maxDoors}
 use Rattle.model.proofs.Tools.Tests.{by-test}
 use Rattle.model.proofs.TaskLists.Masks.{bit-none, bit-member}
 use Rattle.model.proofs.TaskLists.Lowest.{task-below, Lowest, lowest, BeforeLowest, before-lowest}
-use lib.Bits.{bitAnd, and-step, and-shr, and-le-l}
+use Rattle.tasklist.proofs.Shifts.{bit-and}
+use lib.Bits.{bitAnd, and-le-l}
 use lib.Count.{trailingZeros}
 use lib.ListN.{length-drop}
 use lib.Seq.{getD-drop, drop-drop}
@@ -32,11 +33,6 @@ module _ (set : ℕ) where
       maxDoors l
 
 -- ---- the lowest door struck off
-
--- the bits of a masked set are the doors that are in both
-bit-and : (K L j : ℕ) → bit (bitAnd K L) j ≡ min (bit K j) (bit L j)
-unfolding bit
-bit-and K L j = rw and-shr (omega (arith, and-step (K / 2 ^ j) (L / 2 ^ j)))
 
 -- K & (K - 1) is K but for its lowest door
 module _ (K L t : ℕ) (e : suc L ≡ K) (h : Lowest K t) where

@@ -1,7 +1,7 @@
 -- A layer while the rows of one size are written into it, at their ranks: what is shown by then, and that every cell is as lent or an open cell of this layer.
 -- Ranks of lists of one size are distinct, so no row of a size is written over another of that size. And where the rests of a list stand in the layer below. Assumes nothing.
 use Rattle.model.proofs.Basics.{_≡_, refl, sym, ap, ap₂, _∙_, _⊎_, inl, inr, ⊎-elim, true, false, List, _++_, ℕ, suc, _+_, _-_, _*_, _/_, _%_, _^_, _≤_, _<_, ℤ, arith, ltb, length, getD}
-use Rattle.model.proofs.Basics.{ltb-true, ltb-false, mul-le-mul-right, pow-pos, pow-mono, ne-eqb, take, drop, length-take-le, replicate}
+use Rattle.model.proofs.Basics.{ltb-true, ltb-false, mod-lt, zero-lt-suc, mul-le-mul-right, pow-pos, pow-mono, ne-eqb, take, drop, length-take-le, replicate}
 use Rattle.model.specs.{mapBelow, full, without, size, essential, pairsAllow, costToGo, overwrite, overwriteAt, maskBits, maxTasks, maxDoors, InRange}
 use Rattle.model.specs.Sheet.{Sheet}
 use Rattle.model.proofs.Tools.Tests.{by-test, by-last, not-both, or-neither}
@@ -12,7 +12,7 @@ use Rattle.model.proofs.Theory.OpenAlong.{full-allowed}
 use Rattle.model.proofs.Theory.Completions.{to-go-none}
 use Rattle.model.proofs.Bytes.Overwriting.{length-over, over-front, over-below, over-in, over-beyond}
 use lib.Arith.{digits-div, digits-mod}
-use native.Mathlib.Nat.{zero-mul, one-mul, div-lt-iff-lt-mul}
+use native.Mathlib.Nat.{zero-mul, one-mul, add-sub-cancel, div-lt-iff-lt-mul}
 use borrow.Rule.Slice.PartMut.{putMid}
 use Rattle.rank.specs.Binomials.{mostLists}
 use Rattle.rank.specs.Ranks.{rank, maxRanked, rankOf, rankEnds, NextOfSize}
@@ -23,12 +23,12 @@ use Rattle.rank.proofs.Following.{none-among}
 use Rattle.kernel_sheet.specs.declared.Counts.{Counts}
 use Rattle.kernel_sheet.specs.Prepared.{CountsOf, DoorsOf, EndsOf, Workable}
 use Rattle.kernel_list.specs.Lists.{Opened}
-use Rattle.kernel_list.proofs.Charges.{front-at}
+use Rattle.model.proofs.Tools.Arrays.{front-at}
 use Rattle.kernel_gather.specs.Gathering.{restAt}
 use Rattle.kernel_bellman.specs.Rests.{Rests, Listed}
 use Rattle.kernel_bellman.proofs.Bellman.{essential-allowed, OpenList}
 use Rattle.kernel_bellman.proofs.Parts.{row-ends, row-length, row-written}
-use Rattle.kernel_layers.specs.Layers.{layerCells, OpenCell, withRow, LayerFilled, ShowsBelow, Shows, ShowsRests, Kept, backsOf, Backable, LayerRests}
+use Rattle.kernel_layers.specs.Layers.{layerCells, OpenCell, withRow, LayerFilled, ShowsBelow, Shows, ShowsRests, Kept, Half, backsOf, Backable, LayerRests, Roomy}
 
 -- ---- a row written at its place
 
@@ -183,20 +183,8 @@ module _ {S : Sheet} {m lists k : ℕ} {before layer : List ℕ} (h : Filling S 
 
 -- ---- the loop over the sizes
 
--- the layer of a parity once the lists of up to m tasks are done: it shows those of m tasks where that is its parity
-pub record Half (S : Sheet) (parity m : ℕ) (lent layer : List ℕ) : Type 0 where
-  pub shown : m % 2 ≡ parity → Shows S m layer
-  pub kept : Kept S parity lent layer
-
--- those of one task more are written into it, or into the other
+-- when all sizes are done; before: the layer as it was before the end costs
 module _ {S : Sheet} {parity m : ℕ} {lent layer : List ℕ} (h : Half S parity m lent layer) where
-  pub written : {new : List ℕ} → (m + 1) % 2 ≡ parity → Shows S (m + 1) new × Kept S ((m + 1) % 2) layer new → Half S parity (m + 1) lent new
-  written e w = record { shown = λ q. w .0; kept = kept-on (h .kept) (rw e at (w .1)) }
-
-  pub spared : ((m + 1) % 2 ≡ parity → ⊥) → Half S parity (m + 1) lent layer
-  spared n = record { shown = λ q. absurd (n q); kept = h .kept }
-
-  -- and all sizes are done; before: the layer as it was before the end costs
   pub half-filled : {before : List ℕ} → InRange S → 0 < S .points → m ≡ S .tasks → Kept S parity before lent → LayerFilled S parity before layer
   unfolding layerCells
   half-filled {before} R point e k =
@@ -212,6 +200,31 @@ module _ {S : Sheet} {parity m : ℕ} {lent layer : List ℕ} (h : Half S parity
             rw first at (h .shown (rw e q) .shown (full (S .tasks)) p (full-lt (S .tasks)) (full-lt (S .tasks)) (size-full (S .tasks) ∙ sym e) (full-allowed S R) l);
         others = λ i l. c .cells i;
       }
+
+-- a size that is not even is odd
+not-even : (m : ℕ) → ((m + 1) % 2 ≡ 0 → ⊥) → (m + 1) % 2 ≡ 1
+not-even m n = omega (arith, mod-lt (m + 1) (zero-lt-suc 1))
+
+-- one size more, from the layer that shows the one before it: an even size from the odd layer, an odd one from the even
+module _ {S : Sheet} {m : ℕ} {lent₀ lent₁ even odd : List ℕ} (h : Half S 0 m lent₀ even) (g : Half S 1 m lent₁ odd) where
+  pub from-odd : (m + 1) % 2 ≡ 0 → Shows S (m + 1 - 1) odd
+  from-odd e = rw add-sub-cancel (g .shown (omega (arith, e)))
+
+  pub from-even : ((m + 1) % 2 ≡ 0 → ⊥) → Shows S (m + 1 - 1) even
+  from-even n = rw add-sub-cancel (h .shown (omega (arith, not-even m n)))
+
+  pub even-next : {new : List ℕ} (e : (m + 1) % 2 ≡ 0) → Shows S (m + 1) new × Kept S ((m + 1) % 2) even new → Half S 0 (m + 1) lent₀ new × Half S 1 (m + 1) lent₁ odd
+  even-next e w = (record { shown = λ q. w .0; kept = kept-on (h .kept) (rw e at (w .1)) }, record { shown = λ q. absurd (omega (arith, e, q)); kept = g .kept })
+
+  pub odd-next : {new : List ℕ} (n : (m + 1) % 2 ≡ 0 → ⊥) → Shows S (m + 1) new × Kept S ((m + 1) % 2) odd new → Half S 0 (m + 1) lent₀ even × Half S 1 (m + 1) lent₁ new
+  odd-next n w = (record { shown = λ q. absurd (n q); kept = h .kept }, record { shown = λ q. w .0; kept = kept-on (g .kept) (rw (not-even m n) at (w .1)) })
+
+  -- both have room, either way round
+  pub both-roomy : Roomy S lent₀ lent₁ → Roomy S even odd × Roomy S odd even
+  both-roomy r =
+      let e : layerCells S ≤ length even = omega (arith, r .room-below, h .kept .as-many) in
+      let o : layerCells S ≤ length odd = omega (arith, r .room-here, g .kept .as-many) in
+      (record { room-below = e; room-here = o }, record { room-below = o; room-here = e })
 
 -- the even layer begins with the end costs, the row of the empty list
 module _ (S : Sheet) (even ends : List ℕ) (R : InRange S) (room : layerCells S ≤ length even) (E : EndsOf S ends) {n : ℕ} {row : List ℕ} (e : n ≡ S .points)

@@ -70,6 +70,11 @@ pub record Kept (S : Sheet) (parity : ℕ) (before after : List ℕ) : Type 0 wh
   pub as-many : length after ≡ length before
   pub cells : (i : ℕ) → OpenCell S parity i (getD before i 0) (getD after i 0)
 
+-- the layer of a parity once the lists of up to m tasks are done: it shows those of m tasks where that is its parity
+pub record Half (S : Sheet) (parity m : ℕ) (lent layer : List ℕ) : Type 0 where
+  pub shown : m % 2 ≡ parity → Shows S m layer
+  pub kept : Kept S parity lent layer
+
 -- ---- where the rests stand
 
 -- with P points, how far the cell of the rest behind each of n doors stands before the end of its row

@@ -1,14 +1,12 @@
 -- How often a rule is charged, and what the rules cost on every door, one rule at a time. Assumes nothing.
-use Rattle.model.proofs.Basics.{_≡_, refl, sym, _∙_, _≢_, _⊎_, ⊎-elim, Bool, true, false, cond, _&&_, List, _++_, ℕ, _+_, _-_, _*_, _^_, _≤_, _<_, lt-of-le-of-lt, arith, length, getD, set, length-set}
-use Rattle.model.proofs.Basics.{getD-set-same, getD-set-other, ext-getD, eqb, ltb, ltb-true, ltb-false, eqb-true, eqb-false, eq-eqb, ne-eqb, add-one, add-zero, mul-le-mul, ap, drop, replicate, length-append, List·getD-append}
+use Rattle.model.proofs.Basics.{_≡_, refl, sym, _∙_, _≢_, _⊎_, ⊎-elim, Bool, true, false, cond, _&&_, List, ℕ, _+_, _-_, _*_, _^_, _≤_, _<_, lt-of-le-of-lt, arith, length, getD, set, length-set}
+use Rattle.model.proofs.Basics.{getD-set-same, getD-set-other, ext-getD, eqb, ltb, ltb-true, ltb-false, eqb-true, eqb-false, eq-eqb, ne-eqb, add-one, add-zero, mul-le-mul, ap, replicate}
 use Rattle.model.specs.{mapBelow, overwrite, bit, member, countBelow, watchedIn, maxDoors, maxRules}
 use Rattle.model.proofs.Tools.Folds.{length-mapBelow, mapBelow-at, sum-cong, sum-le, sum-none}
-use Rattle.model.proofs.Tools.Arrays.{Filled}
+use Rattle.model.proofs.Tools.Arrays.{front-at, front-behind, front-size}
 use Rattle.model.proofs.Tools.Tests.{by-test}
 use Rattle.model.proofs.TaskLists.Masks.{bit-lt}
 use Rattle.tasklist.proofs.Shifts.{ones-sum, counted-in}
-use lib.ListN.{length-drop}
-use lib.Seq.{getD-drop, getD-append-add}
 use lib.Bits.{bitAnd, and-le-l}
 use lib.Count.{ones}
 use Rattle.kernel_list.specs.Lists.{watchBits, timesBy, timesOf, chargedAt, sumAt, Addable, Chargeable}
@@ -16,12 +14,6 @@ use Rattle.kernel_list.specs.Lists.{watchBits, timesBy, timesOf, charged
 cond-le : (b : Bool) → cond b 1 0 ≤ 1
 cond-le true = omega arith
 cond-le false = omega arith
-
--- ---- a front written
-
-pub front-written : {f : ℕ → ℕ} {a b : List ℕ} {i : ℕ} (n : ℕ) → Filled f a b i → i ≡ n → b ≡ overwrite (mapBelow n f) a
-unfolding overwrite
-front-written n h e = h .so-far ∙ rw (e, length-mapBelow)
 
 -- ---- how often
 
@@ -101,23 +93,6 @@ pub product-small : (x n : ℕ) → x < 2 ^ 32 → n < 2 ^ 16 → x * n < 2 ^ 48
 product-small x n l m = let a : x ≤ 2 ^ 32 - 1 = omega (arith, l) in let b : n ≤ 2 ^ 16 - 1 = omega (arith, m) in omega (arith, mul-le-mul a b)
 
 -- ---- works and charges
-
--- an array with f 0, f 1, .. below n at its front
-module _ (n : ℕ) (f : ℕ → ℕ) (b : List ℕ) where
-  pub front-at : (i : ℕ) → i < n → getD (overwrite (mapBelow n f) b) i 0 ≡ f i
-  unfolding overwrite
-  front-at i l = List·getD-append (mapBelow n f) _ 0 i (rw length-mapBelow l) ∙ mapBelow-at n f i 0 l
-
-  pub front-behind : (i : ℕ) → n ≤ i → getD (overwrite (mapBelow n f) b) i 0 ≡ getD b i 0
-  unfolding overwrite
-  front-behind i l =
-      let e : i ≡ length (mapBelow n f) + (i - n) = rw length-mapBelow (omega arith) in
-      ap (λ (j : ℕ). getD (mapBelow n f ++ drop (length (mapBelow n f)) b) j 0) e
-      ∙ getD-append-add (mapBelow n f) _ (i - n) 0 ∙ rw (length-mapBelow, getD-drop) (ap (λ (j : ℕ). getD b j 0) (omega arith))
-
-  pub front-size : n ≤ length b → length (overwrite (mapBelow n f) b) ≡ length b
-  unfolding overwrite
-  front-size l = rw (length-append, length-mapBelow) (omega (arith, length-drop n b))
 
 pub times-few : (watches leasts mosts : List ℕ) (K i : ℕ) → timesOf watches leasts mosts K i ≤ watchBits + 1
 unfolding timesOf timesBy watchedIn countBelow

@@ -1,10 +1,10 @@
 -- What the arrays say of a list is what the sheet says of it. Assumes nothing.
-use Rattle.model.proofs.Basics.{_≡_, refl, sym, ap, ap₂, _∙_, Bool, true, false, cond, not, _&&_, _||_, List, ℕ, zero, suc, _+_, _-_, _*_, _^_, _≤_, _<_, min, arith, T, ℤ, pos, _+ℤ_, natAbs}
-use Rattle.model.proofs.Basics.{eqb, ltb, leb, length, getD, eqb-true, eq-eqb, ne-eqb, ltb-true, ltb-false, lt-ltb, [], Bool·not-not, +ℤ-idr, add-zero, leb-true, leb-false, lt-of-le-of-lt, lt-of-lt-of-le, pow-mono}
-use Rattle.model.specs.{allBelow, anyBelow, mapBelow, overwrite, bit, member, watchedIn, essential, pairWithin, isFree, canComeFirst, loadBelow, load, ruleCharge, charges}
+use Rattle.model.proofs.Basics.{_≡_, refl, sym, ap, ap₂, _∙_, Bool, true, cond, not, _&&_, _||_, List, ℕ, zero, suc, _+_, _-_, _*_, _^_, _≤_, _<_, min, arith, ℤ, pos, _+ℤ_, natAbs}
+use Rattle.model.proofs.Basics.{eqb, ltb, leb, length, getD, eqb-true, eq-eqb, ne-eqb, ltb-true, [], Bool·not-not, +ℤ-idr, add-zero, leb-true, leb-false, lt-of-le-of-lt, lt-of-lt-of-le, pow-mono}
+use Rattle.model.specs.{allBelow, anyBelow, mapBelow, overwrite, member, watchedIn, essential, pairWithin, isFree, canComeFirst, loadBelow, load, ruleCharge, charges}
 use Rattle.model.specs.{maskBits, maxTasks, maxDoors, InRange}
 use Rattle.model.specs.Sheet.{Sheet}
-use Rattle.model.proofs.Tools.Tests.{by-test, same-test, all-at, all-below, any-true, any-not, all-cong, one-passes, none-below, none-at, implied, and-left, and-right, and-both, not-both}
+use Rattle.model.proofs.Tools.Tests.{by-test, same-test, all-at, all-below, any-true, any-not, all-cong, one-passes, implied, and-left, and-right, and-both}
 use Rattle.model.proofs.Tools.Folds.{mapBelow-cong, sum-cong}
 use Rattle.model.proofs.TaskLists.Masks.{bit-above, member-bit, bit-member}
 use Rattle.model.proofs.TaskLists.Lowest.{task-below}
@@ -12,8 +12,8 @@ use Rattle.model.proofs.Theory.FirstTask.{first-bit}
 use Rattle.model.proofs.TaskLists.OpenLists.{watched-same}
 use lib.Bits.{bitAnd, and-le-l}
 use Rattle.kernel_sheet.specs.declared.Counts.{Counts}
-use Rattle.kernel_sheet.specs.Prepared.{sends, serves, ReceiversOf, SetsOf, ChangesOf, WorksOf, RulesOf, Workable}
-use Rattle.kernel_list.specs.Lists.{unionBelow, unionOf, watchBits, sumOfBelow, sumOf, Loadable, timesBy, timesOf, chargedAt, sumAt, Chargeable, Waiting, Opening, Opened}
+use Rattle.kernel_sheet.specs.Prepared.{sends, serves, ReceiversOf, ChangesOf, RulesOf}
+use Rattle.kernel_list.specs.Lists.{unionOf, watchBits, sumOfBelow, sumOf, Loadable, timesBy, timesOf, chargedAt, sumAt, Chargeable, Waiting, Opening, Opened}
 use Rattle.kernel_list.proofs.Unions.{union-member, without-all}
 
 -- ---- who waits

@@ -1,6 +1,6 @@
 -- The union of what the tasks of a list have, task by task, and what is in it; and masks that the code tells by: whether one has all of another, and one without another.
 -- Assumes nothing.
-use Rattle.model.proofs.Basics.{_≡_, sym, ap, _∙_, ⊎-elim, Bool, true, false, cond, not, _&&_, _||_, List, ℕ, zero, suc, _+_, _-_, _/_, _%_, _^_, _<_, min, arith, eqb, getD}
+use Rattle.model.proofs.Basics.{_≡_, sym, ap, _∙_, Bool, true, false, not, _&&_, _||_, List, ℕ, zero, suc, _+_, _-_, _/_, _^_, _<_, min, arith, eqb, getD}
 use Rattle.model.proofs.Basics.{eqb-true, eq-eqb, add-one}
 use Rattle.model.specs.{allBelow, anyBelow, bit, member, maxTasks}
 use Rattle.model.proofs.Tools.Tests.{by-test, same-test, all-at, all-below, implied}

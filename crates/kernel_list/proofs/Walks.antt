@@ -1,5 +1,5 @@
 -- A list walked by its lowest task, which is struck off: what is left of it, and that a fold over the tasks passes over those that are not in it. Assumes nothing.
-use Rattle.model.proofs.Basics.{_≡_, refl, sym, ap, _∙_, ⊎-elim, true, false, ℕ, zero, suc, _+_, _-_, _^_, _≤_, _<_, arith, eqb, ltb, ltb-true, ltb-false, pow-pos}
+use Rattle.model.proofs.Basics.{_≡_, refl, sym, ap, _∙_, ℕ, zero, suc, _+_, _-_, _^_, _≤_, _<_, arith, ltb, ltb-true, ltb-false, pow-pos}
 use Rattle.model.specs.{bit, without, maskBits, maxTasks}
 use Rattle.model.proofs.Tools.Tests.{by-test, by-last}
 use Rattle.model.proofs.TaskLists.Masks.{bit-none, bit-le, without-is, without-same, without-other}

@@ -1,7 +1,7 @@
 -- What the arrays say of the list at hand: who waits for its tasks, its load, its doors that can come first, and what each door costs but for the way and the rest
 -- (01, Cost of a round; 000, (2.12), (4.1) and (4.2)). Assumes nothing.
 use mathlib.Core.Path.{_≡_}
-use mathlib.Core.Bool.{Bool, true, cond, _&&_}
+use mathlib.Core.Bool.{true, cond, _&&_}
 use mathlib.Core.List.{List}
 use Prim.Native.Nat.{ℕ, zero, suc, _+_, _-_, _*_, _^_, _≤_, _<_, min}
 use lib.Bits.{bitOr}

@@ -1,19 +1,20 @@
--- What is prepared are the numbers and the columns of the sheet. Assumes nothing.
-use Rattle.model.proofs.Basics.{_≡_, refl, _∙_, _&&_, List, ℕ, _+_, _*_, _<_, arith, eqb, ltb, pos, length-append, List·getD-append, digits-lt, true, _^_, _≤_, ℤ, negsuc, areBytes, mag}
+-- What is prepared are the numbers of the sheet, which the kernel can work on. Assumes nothing.
+use Rattle.model.proofs.Basics.{_≡_, refl, _∙_, _&&_, List, ℕ, _*_, _<_, arith, eqb, ltb, pos, true, _^_, _≤_, ℤ, negsuc, areBytes, mag}
 use Rattle.model.proofs.Basics.{eqb-true, eq-eqb, ltb-true, lt-ltb}
-use Rattle.model.specs.{anyBelow, mapBelow, overwrite, maxTasks, maxDoors, maxStarts, maxRules, maxPoints, CountsWithin, InRange, up, down, decode}
+use Rattle.model.specs.{anyBelow, overwrite, maxTasks, maxDoors, maxStarts, maxRules, maxPoints, CountsWithin, InRange, up, down, decode}
 use Rattle.model.specs.Sheet.{Sheet}
 use Rattle.model.proofs.Tools.Tests.{same-test, and-left, and-right, and-both, any-true, one-passes}
-use Rattle.model.proofs.Tools.Folds.{length-mapBelow, mapBelow-at}
+use Rattle.model.proofs.Tools.Folds.{mapBelow-at}
 use Rattle.model.proofs.Theory.Bounds.{fieldLimits, kind1Limits, kind1-within, cost-small}
 use Rattle.model.proofs.Bytes.Widths.{widths}
 use Rattle.model.proofs.Calls.{Reading.Reads, Reading.counts-read, Reading.loads-read, Planning.plannable}
 use Rattle.kernel_sheet.specs.declared.Numbers.{Numbers}
-use Rattle.kernel_sheet.specs.Prepared.{NumbersOf, ColumnsOf, Workable, Prepared, sends, serves}
-use Rattle.kernel_prepare.specs.Preparing.{receiversBelow, doorsBelow, countsOf, tasksOf, doorsOf, rulesOf, numbersOf, columnsOf}
+use Rattle.kernel_sheet.specs.Prepared.{NumbersOf, Workable, Prepared, sends, serves}
+use Rattle.kernel_columns.specs.ByColumns.{columnsOf}
+use Rattle.kernel_columns.proofs.Entries.{columns-held}
+use Rattle.kernel_prepare.specs.Preparing.{receiversBelow, doorsBelow, countsOf, tasksOf, doorsOf, rulesOf, numbersOf}
 use Rattle.kernel_prepare.proofs.Padding.{padded-at}
 use Rattle.kernel_prepare.proofs.Joining.{receivers-join, doors-join, joined-member}
-use Rattle.kernel_prepare.proofs.Entries.{entry, entry-is}
 
 module _ (S : Sheet) where
   -- some door below n is one of task t and is d: so d is below n, and one of task t
@@ -53,18 +54,6 @@ module _ (S : Sheet) where
     };
     starts = padded-at 0 maxStarts (S .starts) (S .startPoint);
     ends = padded-at 0 maxPoints (S .points) (S .endCost);
-  }
-
-  -- an array in front of which the columns stand has them
-  pub columns-held : (buf : List ℕ) {columns : List ℕ} → columns ≡ overwrite (columnsOf S) buf → ColumnsOf S columns
-  unfolding overwrite columnsOf
-  columns-held buf e = record {
-    room = rw (e, length-append, length-mapBelow) (omega arith);
-    entry = λ p q l k.
-        let m : q * S .points + p < S .points * S .points = digits-lt k l in
-        rw e (List·getD-append (mapBelow (S .points * S .points) (entry S)) _ 0 (q * S .points + p) (rw length-mapBelow m))
-        ∙ mapBelow-at (S .points * S .points) (entry S) (q * S .points + p) 0 m
-        ∙ entry-is S p q l;
   }
 
 -- ---- a sheet that reads

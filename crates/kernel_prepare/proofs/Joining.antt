@@ -1,13 +1,13 @@
 -- Masks that a loop joins to: for each t, over the entries i whose owner is t, the mask of their items. The receivers of the pairs of a sender are such
 -- masks, and so are the doors of a task. Assumes nothing.
-use Rattle.model.proofs.Basics.{_≡_, refl, sym, ap, _∙_, Bool, true, cond, _&&_, _||_, or-false, List, ℕ, zero, suc, _+_, _^_, _<_, add-one, arith, pow-pos}
-use Rattle.model.proofs.Basics.{eqb, getD, set, eqb-true, eqb-false, eq-eqb, ne-eqb}
-use Rattle.model.specs.{anyBelow, mapBelow, member, with, withIn, maxDoors, maskBits}
+use Rattle.model.proofs.Basics.{_≡_, refl, sym, ap, _∙_, Bool, cond, _&&_, _||_, or-false, List, ℕ, zero, suc, _+_, _^_, _<_, add-one, arith, pow-pos}
+use Rattle.model.proofs.Basics.{eqb, getD, set, eq-eqb, ne-eqb}
+use Rattle.model.specs.{anyBelow, mapBelow, member, withIn, maxDoors, maskBits}
 use Rattle.model.specs.Sheet.{Sheet}
-use Rattle.model.proofs.Tools.Tests.{by-test, or-true}
+use Rattle.model.proofs.Tools.Tests.{by-test}
 use Rattle.model.proofs.Tools.Folds.{mapBelow-at}
 use Rattle.model.proofs.Tools.Arrays.{map-set}
-use Rattle.model.proofs.TaskLists.Masks.{bit-none, with-same, with-other, with-in}
+use Rattle.model.proofs.TaskLists.Masks.{bit-none, member-with, with-in}
 use Rattle.model.proofs.TaskLists.OpenLists.{with-lt}
 use Rattle.kernel_prepare.specs.Preparing.{receiversBelow, doorsBelow}
 
@@ -21,11 +21,6 @@ receivers-join S = record { first = λ t. refl; next = λ n t. refl }
 
 pub doors-join : (S : Sheet) → Joins maxDoors (S .task) (λ d. d) (doorsBelow S)
 doors-join S = record { first = λ t. refl; next = λ n t. refl }
-
-member-with : (K x j : ℕ) → member (with K x) j ≡ (member K j || eqb x j)
-member-with K x j = by-test (eqb x j)
-    (λ w. let e : x ≡ j = eqb-true x j w in rw (w, e, with-same, or-true (member K j) true refl))
-    (λ w. rw (w, with-other K x j (λ z. eqb-false x j w (sym z)), or-false))
 
 module _ {w : ℕ} {owner item : ℕ → ℕ} {masks : ℕ → ℕ → ℕ} (J : Joins w owner item masks) where
   -- entry i, whose item x joins the mask of its owner t: r is what the code stores

@@ -1,4 +1,3 @@
 pub mod Padding
 pub mod Joining
-pub mod Entries
 pub mod Held

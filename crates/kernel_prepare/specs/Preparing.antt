@@ -1,7 +1,7 @@
 -- The numbers of a sheet as they are prepared: every array has the fields below their count, and 0 behind them; and the distances by columns. Assumes nothing.
 use mathlib.Core.Bool.{cond}
 use mathlib.Core.List.{List, _++_}
-use Prim.Native.Nat.{ℕ, zero, suc, _*_, _/_, _%_}
+use Prim.Native.Nat.{ℕ, zero, suc, _*_}
 use lib.Dec.{eqb}
 use lib.IntN.{pos}
 use lib.ListN.{drop, replicate}
@@ -67,7 +67,3 @@ numbersOf S = record {
   starts = padded 0 maxStarts (S .starts) (S .startPoint);
   ends = padded 0 maxPoints (S .points) (S .endCost);
 }
-
--- the distances to point 0 from every point, then those to point 1, and on: entry q * P + p is the distance from p to q
-unfoldable pub columnsOf : Sheet → List ℕ
-columnsOf S = mapBelow (S .points * S .points) (λ i. S .distance (i % S .points) (i / S .points))

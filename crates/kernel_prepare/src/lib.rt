@@ -1,14 +1,11 @@
 // What the kernel works with, prepared from a sheet: the only place of it that knows bytes, a view and a kind.
 ghost use mathlib.Core.Path.{_≡_};
-ghost use Prim.Native.Nat.{_*_, _≤_};
-ghost use lib.ListN.{length};
 ghost use Rattle.model.specs.Folds.{mapBelow};
-ghost use Rattle.model.specs.Bytes.{overwrite};
 ghost use Rattle.model.specs.SheetLayout.{maxTasks, maxStarts, maxPoints, decode};
 ghost use Rattle.model.specs.Passing.{CountsWithin, InRange};
 ghost use Rattle.view.specs.Views.{Viewed};
 ghost use lib.IntN.{pos};
-ghost use Rattle.kernel_prepare.specs.Preparing.{padded, receiversBelow, doorsBelow, doorsOf, rulesOf, numbersOf, columnsOf};
+ghost use Rattle.kernel_prepare.specs.Preparing.{padded, receiversBelow, doorsBelow, doorsOf, rulesOf, numbersOf};
 use kernel_sheet::Counts;
 use kernel_sheet::Doors;
 use kernel_sheet::MAX_DOORS;
@@ -187,24 +184,5 @@ pub fn numbers(s: &[u8], v: View) -> Numbers
         rules: rules,
         starts: starts,
         ends: ends,
-    }
-}
-
-// Writes the P times P distances, column after column, to the front of what is lent.
-pub fn columns(s: &[u8], v: View, out: &mut [u64])
-    requires { ⌜ Viewed (now s) v × (decode (now s) .points * decode (now s) .points ≤ length (now out)) ⌝ }
-    ensures { λ _. ⌜ now (out .exit) ≡ overwrite (columnsOf (decode (now (s .entry)))) (now (out .entry)) ⌝ }
-{
-    let points = v.points;
-    let mut i: usize = 0;
-    let mut q: u16 = 0;
-    while q < points {
-        let mut p: u16 = 0;
-        while p < points {
-            out[i] = view::distance(s, v, p, q) as u64;
-            i = i + 1;
-            p = p + 1;
-        }
-        q = q + 1;
     }
 }

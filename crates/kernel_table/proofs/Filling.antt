@@ -1,8 +1,8 @@
 -- The cells while the table is filled: none done, a row more, and all done; and what is shown by then. Assumes nothing.
 use Rattle.model.proofs.Basics.{_≡_, refl, sym, ap, ap₂, _∙_, _≢_, ⊎-elim, Bool, true, false, cond, _&&_, List, _++_, ℕ, _+_, _-_, _*_, _/_}
-use Rattle.model.proofs.Basics.{_%_, _^_, _≤_, _<_, arith, eqb, ltb, length, getD, take, drop, length-append, List·getD-append}
-use Rattle.model.proofs.Basics.{length-take-le, ext-getD, getD-take, eqb-true, eqb-false, ne-eqb, ltb-true, ltb-false, lt-ltb, le-ltb}
-use Rattle.model.proofs.Basics.{le-leb, mul-le-mul-right, pow-pos}
+use Rattle.model.proofs.Basics.{_%_, _^_, _≤_, _<_, arith, eqb, ltb, length, getD, drop}
+use Rattle.model.proofs.Basics.{ext-getD, eqb-true, eqb-false, ne-eqb, ltb-true, ltb-false, lt-ltb, le-ltb}
+use Rattle.model.proofs.Basics.{mul-le-mul-right, pow-pos}
 use Rattle.model.specs.{mapBelow, essential, pairsAllow, costToGo, overwrite, overwriteAt, cellAfter, cellsNeeded, cellsAfter, InRange}
 use Rattle.model.specs.Sheet.{Sheet}
 use Rattle.model.proofs.Tools.Tests.{tested, same-test, or-neither}

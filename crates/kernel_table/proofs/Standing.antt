@@ -1,12 +1,12 @@
 -- Where the rests of a list stand in the table, counted back from its own row. Assumes nothing.
 use Rattle.model.proofs.Basics.{_≡_, refl, sym, ap, _∙_, true, List, [], _∷_, ℕ, _+_, _-_, _*_, _^_, _≤_, _<_, mul-le-mul-right, arith, length, getD, replicate, getD-replicate, pow-pos, pow-mono, mul-le-mul, le-refl, _%_, ℤ}
-use Rattle.model.specs.{mapBelow, overwrite, without, pairsAllow, costToGo, maxTasks, maxDoors, InRange}
+use Rattle.model.specs.{without, pairsAllow, maxTasks, maxDoors, InRange}
 use Rattle.model.specs.Sheet.{Sheet}
 use Rattle.model.proofs.TaskLists.Masks.{bit-le, without-is}
 use Rattle.model.proofs.Theory.FirstTask.{first-bit, allow-without}
 use native.Mathlib.Nat.{mul-comm, add-mul, one-mul, mul-one, mod-eq-of-lt}
 use lib.Arith.{digits-lt}
-use Rattle.kernel_list.proofs.Charges.{front-at}
+use Rattle.model.proofs.Tools.Arrays.{front-at}
 use Rattle.kernel_list.specs.Lists.{Opened}
 use Rattle.kernel_gather.specs.Gathering.{restAt}
 use Rattle.kernel_sheet.specs.Prepared.{CountsOf, DoorsOf, Workable}

@@ -1,6 +1,6 @@
 // The table of costs to go: a row of P cells for each list that the pairs allow, list after list in the order of their numbers.
 ghost use mathlib.Core.Path.{_≡_};
-ghost use Prim.Native.Nat.{ℕ, _+_, _*_, _≤_};
+ghost use Prim.Native.Nat.{_+_, _*_, _≤_};
 ghost use lib.ListN.{length};
 ghost use Rattle.model.specs.Folds.{mapBelow};
 ghost use Rattle.model.specs.Bytes.{overwriteAt};

@@ -60,7 +60,7 @@ fn plan_sheet(s: &[u8], v: View, cells: &mut [u64], buf: &mut [u8]) -> Planning
     }
     let numbers = kernel_prepare::numbers(s, v);
     let mut columns = [0u64; COLUMNS];
-    kernel_prepare::columns(s, v, &mut columns);
+    kernel_columns::columns(s, v, &mut columns);
     kernel_table::fill(numbers, &columns, cells);
     let full = tasklist::full(v.tasks);
     let from = full as usize * v.points as usize;

@@ -84,7 +84,7 @@ fn price_sheet(s: &[u8], v: View, even: &mut [u64], odd: &mut [u64]) -> Pricing
 {
     let numbers = kernel_prepare::numbers(s, v);
     let mut columns = [0u64; COLUMNS];
-    kernel_prepare::columns(s, v, &mut columns);
+    kernel_columns::columns(s, v, &mut columns);
     kernel_layers::fill(numbers, &columns, even, odd);
     let row = whole(v.tasks, v.points, even, odd);
     let starts = numbers.starts;

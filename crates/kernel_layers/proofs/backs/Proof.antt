@@ -1,7 +1,6 @@
 -- Door after door from the front. Assumes nothing.
 use Rattle.model.proofs.Basics.{refl, _-_, _≤_, _<_, arith, getD, needs}
-use Rattle.model.proofs.Tools.Arrays.{Filled, none-filled, one-filled}
-use Rattle.kernel_list.proofs.Charges.{front-written}
+use Rattle.model.proofs.Tools.Arrays.{Filled, none-filled, one-filled, front-written}
 use Rattle.kernel_layers.specs.Layers.{backsOf}
 use Rattle.kernel_layers.proofs.backs.Statement.{statement}
 use Rattle.kernel_layers.proofs.backs.Tie as tie

@@ -13,12 +13,12 @@ use Rattle.kernel_layers.proofs.size_rows.Tie as tie
 
 -- of every sheet that the arrays are of
 abbrev Inv-loop : tie.InvT-loop
-Inv-loop table m receivers x change sets column work door watched least most charge columns slot back sums₀ begins₀ parts₀ below here₀ lists k₀ sums begins parts here k =
+Inv-loop table m receivers x change sets column work door watched least most charge columns slot back below here₀ sums₀ begins₀ parts₀ lists k₀ here sums begins parts k =
     (S : Sheet) → Arrayed S x change sets column work door watched least most charge columns → ReceiversOf S receivers → LayerRests S slot back → Shows S (m - 1) below
     → Filling S m here₀ lists here k
 
 abbrev μ-loop : tie.MeasureT-loop
-μ-loop table m receivers x change sets column work door watched least most charge columns slot back sums₀ begins₀ parts₀ below here₀ lists k₀ sums begins parts here k = lists - k
+μ-loop table m receivers x change sets column work door watched least most charge columns slot back below here₀ sums₀ begins₀ parts₀ lists k₀ here sums begins parts k = lists - k
 
 abbrev entered : tie.After-full Inv-loop μ-loop → tie.Start Inv-loop μ-loop
 entered c = c .before .before .before .before .before
@@ -43,16 +43,9 @@ list-row-requires c κs =
     let h = so-far l in
     let more = e .before .before .loop-test .taken in
     let k = in-sheet h more in
-    let ess = sym (told (p .1) _ (p .2) (l .loop .k) _ k (e .before .waiting .ensures) (h .some) (e .has-all .ensures)) ∙ c .before .before .before .before .if1 .taken in (
-      entered (l .before) .pre .0,
-      (
-        p .0,
-        listed (p .1) _ (p .2) (l .loop .k) _ k (e .before .waiting .ensures) ess,
-        p .3,
-        record { room-below = p .4 .room-below; room-here = omega (arith, p .4 .room-here, h .kept .as-many) },
-        rw (h .of-size more) (p .7),
-      ),
-    )
+    let ess = sym (told (p .1) _ (p .2) (l .loop .k) _ k (e .before .waiting .ensures) (h .some) (e .has-all .ensures)) ∙ c .before .before .before .before .if1 .taken in
+    let ok = listed (p .1) _ (p .2) (l .loop .k) _ k (e .before .waiting .ensures) ess in
+    (entered (l .before) .pre .0, (p .0, ok, p .3, record { room-below = p .4 .room-below; room-here = omega (arith, p .4 .room-here, h .kept .as-many) }, rw (h .of-size more) (p .7)))
 
 next-requires : tie.Need-next-requires Inv-loop μ-loop
 next-requires c κs =
@@ -72,8 +65,8 @@ loop-again c S A R T shown =
     let room = same-room (p .1 .counts) (A .counts) (p .4 .room-here) in
     ⊎-elim
     (λ w. let ess = says ∙ w .0 .taken in row-turn h more (A .workable .counts .tasks) room (c .next .ensures) ess
-    (w .11 ∙ w .5 .ensures S (listed A _ R (l .loop .k) _ (in-sheet h more) (e .before .waiting .ensures) ess) T (rw (h .of-size more) shown)))
-    (λ w. pass-turn h more (A .workable .counts .tasks) room (c .next .ensures) (says ∙ w .0 .left) (w .4))
+    (w .8 ∙ w .5 .ensures S (listed A _ R (l .loop .k) _ (in-sheet h more) (e .before .waiting .ensures) ess) T (rw (h .of-size more) shown)))
+    (λ w. pass-turn h more (A .workable .counts .tasks) room (c .next .ensures) (says ∙ w .0 .left) (w .1))
     (c .before .if1 .came)
 
 returns : tie.Need-returns Inv-loop μ-loop

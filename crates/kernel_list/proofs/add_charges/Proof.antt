@@ -1,5 +1,5 @@
 -- Rule after rule what it costs is added at its door. Assumes nothing.
-use Rattle.model.proofs.Basics.{_≡_, refl, _-_, _*_, _^_, _≤_, _<_, arith, length, getD, needs}
+use Rattle.model.proofs.Basics.{refl, _-_, _*_, _^_, _≤_, _<_, arith, length, getD, needs}
 use Rattle.model.specs.{maxDoors}
 use Rattle.kernel_list.proofs.Charges.{Charged, none-charged, one-charged, sum-small, all-charged, product-small}
 use Rattle.kernel_list.proofs.add_charges.Statement.{statement}

@@ -1,7 +1,6 @@
 -- Door after door from the front. Assumes nothing.
-use Rattle.model.proofs.Basics.{_≡_, refl, _-_, _≤_, _<_, arith, length, getD, needs}
-use Rattle.model.proofs.Tools.Arrays.{Filled, none-filled, one-filled}
-use Rattle.kernel_list.proofs.Charges.{front-written}
+use Rattle.model.proofs.Basics.{refl, _-_, _≤_, _<_, arith, length, getD, needs}
+use Rattle.model.proofs.Tools.Arrays.{Filled, none-filled, one-filled, front-written}
 use Rattle.kernel_list.proofs.copy_works.Statement.{statement}
 use Rattle.kernel_list.proofs.copy_works.Tie as tie
 

@@ -1,8 +1,7 @@
 -- Rule after rule from the front. Assumes nothing.
-use Rattle.model.proofs.Basics.{_≡_, refl, ⊎-elim, _-_, _≤_, arith, needs}
-use Rattle.model.proofs.Tools.Arrays.{Filled, none-filled, one-filled}
+use Rattle.model.proofs.Basics.{refl, _-_, _≤_, arith, needs}
+use Rattle.model.proofs.Tools.Arrays.{Filled, none-filled, one-filled, front-written}
 use Rattle.kernel_list.specs.Lists.{timesOf}
-use Rattle.kernel_list.proofs.Charges.{front-written}
 use Rattle.kernel_list.proofs.times.Statement.{statement}
 use Rattle.kernel_list.proofs.times.Tie as tie
 

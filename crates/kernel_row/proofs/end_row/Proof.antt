@@ -1,5 +1,5 @@
 -- Point after point from the front. Assumes nothing.
-use Rattle.model.proofs.Basics.{_≡_, refl, _-_, _<_, arith, length, getD, needs}
+use Rattle.model.proofs.Basics.{refl, _-_, _<_, arith, length, getD, needs}
 use Rattle.model.proofs.Tools.Arrays.{Filled, none-filled, one-filled, all-filled}
 use Rattle.kernel_row.proofs.end_row.Statement.{statement}
 use Rattle.kernel_row.proofs.end_row.Tie as tie

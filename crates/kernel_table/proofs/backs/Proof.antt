@@ -1,8 +1,7 @@
 -- Door after door from the front. Assumes nothing.
-use Rattle.model.proofs.Basics.{_≡_, refl, _-_, _*_, _%_, _^_, _≤_, _<_, arith, getD, needs}
+use Rattle.model.proofs.Basics.{refl, _-_, _*_, _%_, _^_, _≤_, _<_, arith, getD, needs}
 use Rattle.model.specs.{maxTasks}
-use Rattle.model.proofs.Tools.Arrays.{Filled, none-filled, one-filled}
-use Rattle.kernel_list.proofs.Charges.{front-written}
+use Rattle.model.proofs.Tools.Arrays.{Filled, none-filled, one-filled, front-written}
 use Rattle.kernel_table.specs.Cells.{backsOf}
 use Rattle.kernel_table.proofs.Standing.{shifted, no-less}
 use Rattle.kernel_table.proofs.backs.Statement.{statement}

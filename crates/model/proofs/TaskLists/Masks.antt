@@ -1,11 +1,11 @@
 -- Masks as sets: what is in a list after a task is struck off, by halving list and task together, or joined, which striking it off again undoes;
 -- equal members, equal lists. Assumes nothing.
-use Rattle.model.proofs.Basics.{_≡_, refl, sym, ap, _∙_, _≢_, _⊎_, inl, inr, true, false, cond, ℕ, zero, suc, _+_, _-_, _/_, _%_}
+use Rattle.model.proofs.Basics.{_≡_, refl, sym, ap, _∙_, _≢_, _⊎_, inl, inr, true, false, cond, _||_, or-false, ℕ, zero, suc, _+_, _-_, _/_, _%_}
 use Rattle.model.proofs.Basics.{_^_, _≤_, _<_, add-zero, pow-succ', mod-lt, zero-lt-suc, zero-div, div-one, div-div-eq-div-mul}
-use Rattle.model.proofs.Basics.{arith, ltb, pow-pos, pow-mono, eqb-true, eqb-false, eq-eqb, lt-ltb, le-ltb, le-ind}
+use Rattle.model.proofs.Basics.{arith, eqb, ltb, pow-pos, pow-mono, eqb-true, eqb-false, eq-eqb, lt-ltb, le-ltb, le-ind}
 use Rattle.model.specs.{sumBelow, countBelow, bit, member, with, without, full, size, watchedIn, withIn, maskBits, listsOf, fullOf}
 use Rattle.model.proofs.Tools.Folds.{sum-cong, sum-none, sum-zero, sum-more, sum-le}
-use Rattle.model.proofs.Tools.Tests.{by-test, by-last}
+use Rattle.model.proofs.Tools.Tests.{by-test, by-last, or-true}
 
 -- ---- bits
 
@@ -136,6 +136,11 @@ with-same K t = by-bit K t (λ w. rw with-is (join-same t K w)) (λ w. rw with-m
 -- and every other task is as it was
 pub with-other : (K t j : ℕ) → j ≢ t → bit (with K t) j ≡ bit K j
 with-other K t j n = by-bit K t (λ w. rw with-is (join-other t j K w n)) (λ w. rw with-member refl)
+
+pub member-with : (K t j : ℕ) → member (with K t) j ≡ (member K j || eqb t j)
+member-with K t j = by-test (eqb t j)
+    (λ w. let e : t ≡ j = eqb-true t j w in rw (w, e, with-same, or-true (member K j) true refl))
+    (λ w. rw (w, with-other K t j (λ z. eqb-false t j w (sym z)), or-false))
 
 -- ---- a list is known by its members
 

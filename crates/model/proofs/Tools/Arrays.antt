@@ -2,10 +2,10 @@
 use Rattle.model.proofs.Basics.{_≡_, refl, sym, ap, _∙_, _≢_, Bool, true, false, cond, List, _++_, map, append-nil, ℕ, suc, _+_, _-_, _≤_}
 use Rattle.model.proofs.Basics.{_<_, add-one, arith, eqb, ltb, length, getD, drop, set, length-map, length-set, drop-of-length-le}
 use Rattle.model.proofs.Basics.{List·getD-map, drop-cons, ext-getD, getD-set-same, getD-set-other, append-snoc, set-at, eqb-true}
-use Rattle.model.proofs.Basics.{eqb-false, ltb-true, lt-ltb}
+use Rattle.model.proofs.Basics.{eqb-false, ltb-true, lt-ltb, length-append, List·getD-append}
 use lib.ListN.{length-drop}
-use lib.Seq.{getD-drop}
-use Rattle.model.specs.{mapBelow, doorArray}
+use lib.Seq.{getD-drop, getD-append-add}
+use Rattle.model.specs.{mapBelow, overwrite, doorArray}
 use Rattle.model.proofs.Tools.{Tests.same-test, Folds.length-mapBelow, Folds.mapBelow-at}
 
 -- ---- an array that a loop fills
@@ -79,3 +79,26 @@ array-next lent n f h =
     ∙ map-set lent n (λ i. cond (ltb i n) (f i) 0) (λ i. cond (ltb i (suc n)) (f i) 0) h (λ i ne. ap (λ (b : Bool). cond b (f i) 0) (same-test _ _
     (λ e. let l = ltb-true i n e in lt-ltb i (suc n) (omega arith))
     (λ e. let l = ltb-true i (suc n) e in lt-ltb i n (omega arith))))
+
+-- ---- numbers at the front of an array
+
+pub front-written : {f : ℕ → ℕ} {a b : List ℕ} {i : ℕ} (n : ℕ) → Filled f a b i → i ≡ n → b ≡ overwrite (mapBelow n f) a
+unfolding overwrite
+front-written n h e = h .so-far ∙ rw (e, length-mapBelow)
+
+-- an array with f 0, f 1, .. below n at its front
+module _ (n : ℕ) (f : ℕ → ℕ) (b : List ℕ) where
+  pub front-at : (i : ℕ) → i < n → getD (overwrite (mapBelow n f) b) i 0 ≡ f i
+  unfolding overwrite
+  front-at i l = List·getD-append (mapBelow n f) _ 0 i (rw length-mapBelow l) ∙ mapBelow-at n f i 0 l
+
+  pub front-behind : (i : ℕ) → n ≤ i → getD (overwrite (mapBelow n f) b) i 0 ≡ getD b i 0
+  unfolding overwrite
+  front-behind i l =
+      let e : i ≡ length (mapBelow n f) + (i - n) = rw length-mapBelow (omega arith) in
+      ap (λ (j : ℕ). getD (mapBelow n f ++ drop (length (mapBelow n f)) b) j 0) e
+      ∙ getD-append-add (mapBelow n f) _ (i - n) 0 ∙ rw (length-mapBelow, getD-drop) (ap (λ (j : ℕ). getD b j 0) (omega arith))
+
+  pub front-size : n ≤ length b → length (overwrite (mapBelow n f) b) ≡ length b
+  unfolding overwrite
+  front-size l = rw (length-append, length-mapBelow) (omega (arith, length-drop n b))

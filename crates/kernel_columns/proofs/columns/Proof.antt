@@ -4,9 +4,9 @@ use Rattle.model.specs.{decode}
 use Rattle.model.specs.Sheet.{Sheet}
 use Rattle.model.proofs.Tools.Arrays.{Filled, none-filled, one-filled}
 use Rattle.view.proofs.Counted.{points-are}
-use Rattle.kernel_prepare.proofs.Entries.{entry, entry-is, all-entries}
-use Rattle.kernel_prepare.proofs.columns.Statement.{statement}
-use Rattle.kernel_prepare.proofs.columns.Tie as tie
+use Rattle.kernel_columns.proofs.Entries.{entry, entry-is, all-entries}
+use Rattle.kernel_columns.proofs.columns.Statement.{statement}
+use Rattle.kernel_columns.proofs.columns.Tie as tie
 
 -- whatever the columns before were written to, this one is written behind them so far
 abbrev Inv-loop2 : tie.InvT-loop2
