@@ -1,4 +1,6 @@
 // Texts and decimal numbers put into a buffer that is lent: one that does not fit is not written, and no byte of the buffer changes.
+#![tactic(auto)]
+
 ghost use Rattle.std.specs.Prelude.{◌≡◌};
 ghost use Rattle.model.specs.Bytes.{overwrite_at, written_at};
 ghost use Rattle.model.specs.Printing.{decimal};

@@ -1,4 +1,6 @@
 // The plan in hand: built door by door, or taken from the bytes of a plan.
+#![tactic(auto)]
+
 ghost use Rattle.std.specs.Prelude.{◌≡◌};
 ghost use Rattle.model.specs.PlanInHand.{no_doors, with_door, in_hand};
 ghost use Rattle.hand.specs.Hands.{hand_of};

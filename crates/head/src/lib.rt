@@ -1,4 +1,6 @@
 // The head of a task sheet, of any bytes: its kind, and what its contents lines state. A byte beyond the end counts as 0.
+#![tactic(auto)]
+
 ghost use Rattle.std.specs.Prelude.{◌≡◌, ◌+◌, ◌*◌};
 ghost use Rattle.model.specs.Bytes.{number_at};
 ghost use Rattle.model.specs.SheetLayout.{line_body, line_offset, entries};

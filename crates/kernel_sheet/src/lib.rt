@@ -1,5 +1,7 @@
 // A sheet as the kernel has it: plain numbers in arrays, prepared once a call. The kernel knows no bytes, no view and no kind.
 // The most entries of each body.
+#![tactic(auto)]
+
 pub const MAX_TASKS: usize = 12;
 
 pub const MAX_DOORS: usize = 64;

@@ -1,4 +1,6 @@
 // The layout of a plan: head, start, doors and cost.
+#![tactic(auto)]
+
 ghost use Rattle.std.specs.Prelude.{◌≡◌, ◌≤◌, length};
 ghost use Rattle.model.specs.Bytes.{overwrite_at};
 ghost use Rattle.model.specs.PlanLayout.{plan_start_at, plan_length, plan_head, wrong_tasks, wrong_head, ill_formed, start_in, door_in, cost_in, door_array};

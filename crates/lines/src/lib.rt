@@ -1,4 +1,6 @@
 // Lines: the lines that the print program prints, one by one, each laid into a buffer.
+#![tactic(auto)]
+
 ghost use Rattle.std.specs.Prelude.{◌+◌, ◌≤◌, length};
 ghost use Rattle.model.specs.Printing.{refusal_line, step_line};
 ghost use Rattle.lines.specs.Lines.{labelled, line_of, head_lines, max_digits, max_head, max_step, Laid};

@@ -1,5 +1,7 @@
 // The lesser of two numbers, by the order of floats. A number stands in a float, and is compared and taken out again; nothing is computed with floats. Patterns of floats, and
 // what is added to a number for one, are known here alone.
+#![tactic(auto)]
+
 ghost use Rattle.std.specs.Prelude.{◌≡◌, ℕ, ◌^◌, ◌<◌, min};
 ghost use Rattle.minimum.specs.Floats.{Holds};
 

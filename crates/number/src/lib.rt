@@ -1,4 +1,6 @@
 // Numbers read from bytes, the least significant first. A byte beyond the end counts as 0, so any place can be read.
+#![tactic(auto)]
+
 ghost use Rattle.std.specs.Prelude.{◌≡◌};
 ghost use Rattle.model.specs.Bytes.{number_at, signed};
 

@@ -1,4 +1,6 @@
 // Plans written as bytes and read from them.
+#![tactic(auto)]
+
 ghost use Rattle.std.specs.Prelude.{◌≡◌, length};
 ghost use Rattle.model.specs.Answer.{status};
 ghost use Rattle.model.specs.PlanLayout.{write_plan, read_plan, start_left, doors_left, cost_left};

@@ -1,4 +1,6 @@
 // The rank of a list of tasks, the number of lists of its size with a smaller number, from a table of binomials; and the next list of the same size.
+#![tactic(auto)]
+
 ghost use Rattle.std.specs.Prelude.{◌≡◌, ◌*◌, ◌^◌, ◌≤◌, ◌<◌};
 ghost use Rattle.model.specs.TaskList.{size};
 ghost use Rattle.model.specs.Method.{mask_bits};

@@ -1,4 +1,6 @@
 // Numbers written as bytes, the least significant first. What would pass the end is not written.
+#![tactic(auto)]
+
 ghost use Rattle.std.specs.Prelude.{◌≡◌};
 ghost use Rattle.model.specs.Bytes.{bytes_of, overwrite_at};
 ghost use Rattle.store.specs.Rows.{row_bytes};

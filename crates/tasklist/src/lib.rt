@@ -1,4 +1,6 @@
 // Lists of tasks as masks of 32 bits: bit j stands for task j. Every function takes any number of its type.
+#![tactic(auto)]
+
 ghost use Rattle.std.specs.Prelude.{◌≡◌};
 ghost use Rattle.model.specs.TaskList.{member, without, watched_in};
 ghost use Rattle.model.specs.Method.{with_in, meets, mask_bits, lists_of, full_of};

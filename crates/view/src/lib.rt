@@ -1,5 +1,7 @@
 // A view of a task sheet: its counts and the places of its bodies, computed once, and the fields read straight from the bytes over it.
 // Each reader asks that the view is that of the bytes, that the sheet ends with its last body, and that the entry is below its count.
+#![tactic(auto)]
+
 ghost use Rattle.std.specs.Prelude.{◌≡◌, ◌+◌, ◌*◌, ◌≤◌, ◌<◌, length};
 ghost use Rattle.model.specs.Bytes.{number_at};
 ghost use Rattle.model.specs.SheetLayout.{decode};

@@ -1,0 +1,40 @@
+-- The head is a row of numbers that fit their bytes, so it stands in the bytes exactly where each number is read there. Assumes nothing.
+use Rattle.model.proofs.Basics.{sym, ◌∙◌, ◌-◌, arith, eq-eqb, rules}
+use Rattle.model.specs.{wrong_head}
+use Rattle.model.proofs.Tools.Elements.{are_bytes_lem}
+use Rattle.model.proofs.Tools.Searches.{PassedBelow, none_tried, passed_on}
+use Rattle.layout.specs.Heads.{head_count}
+use Rattle.layout.proofs.Heads.{same_at, Comparable, one_differs, none_differs}
+use Rattle.layout.proofs.wrong_head.Goals.{After-head-numbers}
+use Rattle.layout.proofs.wrong_head.Goals as goal
+
+-- what is known once the numbers are at hand
+comparable : (c : After-head-numbers) → let a = c.args in Comparable a.n a.q.now c.head-numbers.result
+comparable c =
+    record {
+      head_is = c.head-numbers.ensures;
+      fits = c.ranges.n.fits;
+      bytes = are_bytes_lem c.args.q.now c.shared_slice_known-1.given;
+      long = c.requires;
+    }
+
+pub loop-k-init : goal.loop-k-init
+loop-k-init c =
+    none_tried
+
+-- a number differs
+pub returns-then-read_u16-numbers : goal.returns-then-read_u16-numbers
+unfolding wrong_head
+returns-then-read_u16-numbers c =
+    one_differs (comparable (goal.at.returns-then-read_u16-numbers c).After-head-numbers) (omega arith) c.read_u16.ensures c.if-read_u16-numbers.true
+
+-- one number more is the head's
+pub loop-k-preserved : goal.loop-k-preserved
+loop-k-preserved c =
+    passed_on c.loop-k.invariant (omega arith) (eq-eqb _ _ (sym c.read_u16.ensures ∙ c.if-read_u16-numbers.false))
+
+-- none does
+pub returns : goal.returns
+unfolding wrong_head
+returns c =
+    none_differs (comparable (goal.at.returns c).After-head-numbers) c.loop-k.invariant (omega arith)

@@ -1,0 +1,11 @@
+-- Each turn writes one number behind those that are written; where not all are in the buffer, none is. Assumes nothing.
+use Rattle.model.proofs.Basics.{◌-◌, arith, get_or, rules}
+use Rattle.model.proofs.Bytes.Rows.{Written, none_written, one_written, same_room, all_written}
+use Rattle.store.proofs.Writing.{row_unwritten}
+use Rattle.store.proofs.write_row.Given as goal
+
+abbrev pub invariant-loop-i : goal.invariant-loop-i
+invariant-loop-i l = Written 2 l.n l.at (λ j. get_or l.row j 0) l.initial.b l.b l.i
+
+abbrev pub decreases-loop-i : goal.decreases-loop-i
+decreases-loop-i l = l.n - l.i

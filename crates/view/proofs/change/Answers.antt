@@ -1,0 +1,19 @@
+-- The only field of the tasks, whose place no count moves, in two's complement. Assumes nothing.
+use Rattle.model.proofs.Basics.{ap, ◌∙◌, lit<, rules}
+use Rattle.model.specs.{signed, tasks_body, kind1, field_width, decode_by, layout_of, decode}
+use mir.Syntax.{w16}
+use mir.ValLaws.{to_z-of_z}
+use Rattle.view.proofs.Fields.{within, field_is}
+use Rattle.view.proofs.change.Goals as goal
+
+pub field2-requires : goal.field2-requires
+unfolding decode_by decode
+field2-requires c =
+    let p = c.requires in within p.0 tasks_body 0 _ (lit< tt) p.1
+
+pub returns : goal.returns
+unfolding layout_of kind1 field_width decode_by decode
+returns c =
+    to_z-of_z w16 _ (record { sfits = c.to_i16.type_inv })
+    ∙ c.to_i16.ensures
+    ∙ ap (signed 2) (field_is c.requires.0 tasks_body 0 _ (lit< tt) c.field2.ensures)
