@@ -2,6 +2,7 @@
 use Rattle.model.proofs.Basics.{refl, ⊎_elim, cond, ◌-◌, ltb, length, lt-ltb, le-ltb, rules}
 use Rattle.model.specs.{door_in, door_array}
 use Rattle.model.proofs.Tools.Arrays.{Filled, none_filled, one_filled, all_filled}
+use Rattle.layout.proofs.read_doors.Goals.{then-i-n, else-i-n}
 use Rattle.layout.proofs.read_doors.Goals as goal
 
 pub loop-i-init : goal.loop-i-init
@@ -12,7 +13,7 @@ loop-i-init c =
 pub loop-i-preserved : goal.loop-i-preserved
 loop-i-preserved c =
     one_filled c.loop-i.invariant _ _ c.loop-i-test.true
-    (⊎_elim (λ w. rw (w.2, lt-ltb _ _ w.0.taken) w.1.ensures) (λ w. rw (w.1, le-ltb _ _ w.0.left)) c.if-i-n.branch)
+    (elim c.if-i-n.branch [ then-i-n w ↦ rw (w.door-is, lt-ltb _ _ w.if-i-n.true) w.door_in-door.ensures | else-i-n w ↦ rw (w.door-is, le-ltb _ _ w.if-i-n.false) ])
     refl
 
 pub shape_of-doors : goal.shape_of-doors
