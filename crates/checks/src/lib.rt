@@ -1,4 +1,6 @@
 // The checks of 31 to 33, on the doors of a plan and their tasks, each against the counts in the view.
+#![tactic(auto)]
+
 ghost use Rattle.std.specs.Prelude.{◌≡◌, true, map, ◌≤◌, ◌<◌, ltb, length, replicate};
 ghost use Rattle.model.specs.Folds.{map_below, all_in, index_of};
 ghost use Rattle.model.specs.Bytes.{overwrite};

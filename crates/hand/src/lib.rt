@@ -8,7 +8,7 @@ ghost use Rattle.hand.specs.Hands.{hand_of};
 use layout::MAX_DOORS;
 
 // A plan in hand: its doors, how many of the places they take, and its cost.
-#[derive(Drop)]
+#[derive(Clone, Copy)]
 pub struct Plan {
     pub doors: [u16; MAX_DOORS],
     pub count: usize,

@@ -147,7 +147,7 @@ fn charge_doors(
 }
 
 // What a list has once it is open.
-#[derive(Drop)]
+#[derive(Clone, Copy)]
 pub struct AtHand {
     pub load: u32,
     pub doors: u64,

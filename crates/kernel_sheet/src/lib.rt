@@ -16,7 +16,7 @@ pub const MAX_POINTS: usize = 64;
 pub const MAX_DISTANCES: usize = 4096;
 
 // The end load, and how many entries there are.
-#[derive(Drop)]
+#[derive(Clone, Copy)]
 pub struct Counts {
     pub end_load: u16,
     pub tasks: u16,
@@ -27,7 +27,7 @@ pub struct Counts {
 }
 
 // Of each task its change, its receivers as a mask, and its doors as 64 bits.
-#[derive(Drop)]
+#[derive(Clone, Copy)]
 pub struct Tasks {
     pub change: [i16; MAX_TASKS],
     pub receivers: [u32; MAX_TASKS],
@@ -35,7 +35,7 @@ pub struct Tasks {
 }
 
 // Of each door where the column of its arrival point begins, its task, its departure point and its work.
-#[derive(Drop)]
+#[derive(Clone, Copy)]
 pub struct Doors {
     pub column: [u16; MAX_DOORS],
     pub task: [u16; MAX_DOORS],
@@ -44,7 +44,7 @@ pub struct Doors {
 }
 
 // Of each access rule its door, the watched tasks, the least count, how often it is charged at most, and the charge.
-#[derive(Drop)]
+#[derive(Clone, Copy)]
 pub struct Rules {
     pub door: [u16; MAX_RULES],
     pub watched: [u16; MAX_RULES],
@@ -54,7 +54,7 @@ pub struct Rules {
 }
 
 // All but the distances: also of each start its point, and of each point its end cost.
-#[derive(Drop)]
+#[derive(Clone, Copy)]
 pub struct Numbers {
     pub counts: Counts,
     pub tasks: Tasks,

@@ -68,7 +68,7 @@ fn binomial(table: &Table, n: usize, k: usize) -> u32
 }
 
 // The rank of a list, and its number of tasks.
-#[derive(Drop)]
+#[derive(Clone, Copy)]
 pub struct Ranked {
     pub rank: u32,
     pub size: usize,
@@ -96,7 +96,7 @@ pub fn rank(table: &Table, k: u32) -> Ranked
 }
 
 // Where the row of a list begins in a layer, and for each task where that of the list without it ends.
-#[derive(Drop)]
+#[derive(Clone, Copy)]
 pub struct ListRows {
     pub own: usize,
     pub ends: [usize; MAX_TASKS],

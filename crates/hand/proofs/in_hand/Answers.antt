@@ -1,0 +1,21 @@
+-- After i turns the plan is the empty one with the first i doors added. Assumes nothing.
+use Rattle.model.proofs.Basics.{◌≡◌, sym, ap, ap₂, ◌∙◌, ◌-◌, ◌≤◌, arith, rules}
+use Rattle.model.specs.{map_below, door_in, cost_in, no_doors, with_door, with_doors}
+use Rattle.model.proofs.Bytes.InHand.{with_next, all_added}
+use Rattle.hand.specs.Hands.{hand_of}
+use Rattle.hand.proofs.in_hand.Goals as goal
+
+pub loop-i-init : goal.loop-i-init
+unfolding map_below
+loop-i-init c =
+    (omega arith, c.new-x.ensures ∙ ap no_doors c.cost_in.ensures)
+
+-- one door more is added
+pub loop-i-preserved : goal.loop-i-preserved
+loop-i-preserved c =
+    let so_far = c.loop-i.invariant.1 in
+    (omega arith, c.with_door-x.ensures ∙ ap₂ with_door so_far c.door_in_lem.ensures ∙ sym (with_next _ _ _))
+
+pub returns : goal.returns
+returns c =
+    all_added _ _ _ _ (omega arith) c.loop-i.invariant.1

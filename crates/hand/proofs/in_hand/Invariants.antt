@@ -1,0 +1,12 @@
+-- After i turns the plan is the empty one with the first i doors added. Assumes nothing.
+use Rattle.model.proofs.Basics.{◌≡◌, sym, ap, ap₂, ◌∙◌, ◌-◌, ◌≤◌, arith, rules}
+use Rattle.model.specs.{map_below, door_in, cost_in, no_doors, with_door, with_doors}
+use Rattle.model.proofs.Bytes.InHand.{with_next, all_added}
+use Rattle.hand.specs.Hands.{hand_of}
+use Rattle.hand.proofs.in_hand.Given as goal
+
+abbrev pub invariant-loop-i : goal.invariant-loop-i
+invariant-loop-i l = (l.i ≤ l.n) × (hand_of l.x ≡ with_doors (no_doors (cost_in l.n l.q)) (map_below l.i (door_in l.q)))
+
+abbrev pub decreases-loop-i : goal.decreases-loop-i
+decreases-loop-i l = l.n - l.i
