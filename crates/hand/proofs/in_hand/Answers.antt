@@ -14,7 +14,7 @@ loop-i-init c =
 pub loop-i-preserved : goal.loop-i-preserved
 loop-i-preserved c =
     let so_far = c.loop-i.invariant.1 in
-    (omega arith, c.with_door-x.ensures ∙ ap₂ with_door so_far c.door_in_lem.ensures ∙ sym (with_next _ _ _))
+    (omega arith, c.with_door-x.ensures ∙ ap₂ with_door so_far c.door_in.ensures ∙ sym (with_next _ _ _))
 
 pub returns : goal.returns
 returns c =

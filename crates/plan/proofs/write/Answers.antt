@@ -8,12 +8,12 @@ use Rattle.plan.proofs.write.Goals as goal
 
 -- 12 does not apply
 right : (c : Else-wrong_tasks) → let a = c.args in wrong_tasks a.n (length a.doors.now) ≡ false
-right c = sym c.wrong_tasks_lem.ensures ∙ c.if-wrong_tasks.false
+right c = sym c.wrong_tasks.ensures ∙ c.if-wrong_tasks.false
 
 -- 12
 pub returns-then-wrong_tasks : goal.returns-then-wrong_tasks
 returns-then-wrong_tasks c =
-    let both = wrong_number _ _ _ _ _ (sym c.wrong_tasks_lem.ensures ∙ c.if-wrong_tasks.true) in record { answer = both.0; bytes = both.1 }
+    let both = wrong_number _ _ _ _ _ (sym c.wrong_tasks.ensures ∙ c.if-wrong_tasks.true) in record { answer = both.0; bytes = both.1 }
 
 pub overflow_cast-tasks : goal.overflow_cast-tasks
 overflow_cast-tasks c =

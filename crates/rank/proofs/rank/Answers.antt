@@ -1,0 +1,57 @@
+-- Task by task from the lowest, the sum has what the tasks so far add. Assumes nothing.
+use Rattle.model.proofs.Basics.{◌∙◌, ℕ, ◌%◌, ◌^◌, ◌≤◌, arith, rules}
+use Rattle.model.specs.{mask_bits}
+use lib.Count.{count_trailing_zeros, count_leading_zeros, trailing_le, leading_le}
+use Rattle.rank.specs.Binomials.{binomial}
+use Rattle.rank.specs.Ranks.{max_ranked, rank_of}
+use Rattle.model.proofs.TaskLists.Lowest.{Lowest, lowest}
+use Rattle.rank.proofs.Ends.{without_less, size_mask}
+use Rattle.rank.proofs.Ranking.{Ranking, none_ranked, one_ranked, rank_fits, all_ranked}
+use Rattle.rank.proofs.rank.Goals.{In-loop-left}
+use Rattle.rank.proofs.rank.Goals as goal
+
+-- a count of zeros is at most the width: from either end, so that one from the wrong end fails by its place in the table, and not by its width
+zeros-le : (K : ℕ) → (count_trailing_zeros mask_bits K ≤ mask_bits) × (count_leading_zeros mask_bits K ≤ mask_bits)
+zeros-le K = (trailing_le mask_bits K, leading_le mask_bits K)
+
+-- the task of the turn
+task : (c : In-loop-left) → Lowest c.loop-left.left (count_trailing_zeros mask_bits c.loop-left.left)
+task c = lowest mask_bits _ (omega arith) (omega arith)
+
+pub loop-left-init : goal.loop-left-init
+loop-left-init c =
+    none_ranked _ _ (omega arith)
+
+pub overflow_add-size : goal.overflow_add-size
+overflow_add-size c =
+    omega (arith, (rank_fits c.loop-left.invariant (task (goal.at.overflow_add-size c).In-loop-left)).1)
+
+pub overflow_cast-t : goal.overflow_cast-t
+overflow_cast-t c =
+    omega (arith, zeros-le c.loop-left.left)
+
+pub binomial-rank-requires : goal.binomial-rank-requires
+binomial-rank-requires c =
+    let f = rank_fits c.loop-left.invariant (task (goal.at.binomial-rank-requires c).In-loop-left) in (c.requires, (f.0, f.1))
+
+pub overflow_add-rank : goal.overflow_add-rank
+overflow_add-rank c =
+    omega (arith, (rank_fits c.loop-left.invariant (task (goal.at.overflow_add-rank c).In-loop-left)).2, c.binomial-rank.ensures)
+
+pub overflow_cast-t-in-loop-left : goal.overflow_cast-t-in-loop-left
+overflow_cast-t-in-loop-left c =
+    omega (arith, zeros-le c.loop-left.left)
+
+pub loop-left-smaller : goal.loop-left-smaller
+loop-left-smaller c =
+    rw c.without-left.ensures (without_less _ _ (task (goal.at.loop-left-smaller c).In-loop-left).task)
+
+-- one task more
+pub loop-left-preserved : goal.loop-left-preserved
+loop-left-preserved c =
+    rw (c.without-left.ensures, c.binomial-rank.ensures) (one_ranked c.loop-left.invariant (task (goal.at.loop-left-preserved c).In-loop-left))
+
+pub returns : goal.returns
+unfolding rank_of
+returns c =
+    let r = all_ranked c.loop-left.invariant c.loop-left-test.false in record { rank = r.0; size = r.1 ∙ size_mask max_ranked _ }

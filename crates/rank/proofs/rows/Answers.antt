@@ -1,0 +1,116 @@
+-- Task by task from the highest, the row of the list without it; the sum then has the task one place lower. Assumes nothing.
+use Rattle.model.proofs.Basics.{◌≡◌, sym, ap, ◌∙◌, ℕ, ◌+◌, ◌-◌, ◌*◌, ◌%◌, ◌^◌, ◌≤◌, ◌<◌, arith, rules}
+use Rattle.model.specs.{map_below, without, mask_bits}
+use lib.Count.{count_leading_zeros}
+use Rattle.rank.specs.Ranks.{rank, max_ranked, rank_of}
+use Rattle.rank.proofs.Binomials.{binomial_small}
+use Rattle.rank.proofs.Ends.{leading_less, Highest, highest, without_less, size_mask}
+use Rattle.rank.proofs.Rests.{Lowering, none_lowered, one_lowered, rest_now, lower_fits, rank_small, row_fits, rows_while, rows_none, rows_one}
+use Rattle.rank.proofs.Rests.{rows_all}
+use Rattle.rank.proofs.rows.Goals.{After-binomial, After-rank-all, In-loop-left}
+use Rattle.rank.proofs.rows.Goals as goal
+
+-- the end of the list's own row
+own-fits : (c : After-rank-all) → let points = c.args.points in c.rank-all.result.rank * points + points < 2 ^ 33
+own-fits c = row_fits (rw c.rank-all.ensures.rank (rank_small _)) (omega arith)
+
+-- the task of the turn
+task : (c : In-loop-left) → Highest c.loop-left.left (31 - count_leading_zeros mask_bits c.loop-left.left)
+task c = highest mask_bits _ (omega arith) (omega arith)
+
+-- its number, and its place
+placed : (c : In-loop-left) →
+    (31 - count_leading_zeros mask_bits c.loop-left.left < max_ranked) × (c.loop-left.i ≤ max_ranked) × (0 < c.loop-left.i)
+placed c = lower_fits c.loop-left.invariant.1 (task c)
+
+-- the rank of the list without it
+rest : (c : After-binomial) →
+    let l = c.loop-left in
+    let x = l.sum - c.binomial.result in
+    (c.binomial.result ≤ l.sum)
+    × (x ≡ rank max_ranked (without (c.args.k % 2 ^ max_ranked) (31 - count_leading_zeros mask_bits l.left)))
+    × (x < 2 ^ max_ranked)
+rest c = rest_now c.loop-left.invariant.1 (task c) c.binomial.ensures
+
+-- and where its row ends
+rest-fits : (c : After-binomial) →
+    let points = c.args.points in (c.loop-left.sum - c.binomial.result) * points + points < 2 ^ 33
+rest-fits c = row_fits (rest c).2 (omega arith)
+
+pub overflow_mul-own : goal.overflow_mul-own
+overflow_mul-own c =
+    record { fits = omega (arith, own-fits (goal.at.overflow_mul-own c).After-rank-all) }
+
+pub overflow_add-ends : goal.overflow_add-ends
+overflow_add-ends c =
+    record { fits = omega (arith, own-fits (goal.at.overflow_add-ends c).After-rank-all) }
+
+-- before the first turn every row is the list's own
+pub loop-left-init : goal.loop-left-init
+unfolding rank_of map_below
+loop-left-init c =
+    let a = c.args in
+    let r = c.rank-all.ensures in (
+      rows_none a.points a.k _ r.0,
+      none_lowered _ _ (omega arith) r.0 (r.1 ∙ sym (size_mask max_ranked a.k)),
+    )
+
+pub overflow_sub-t : goal.overflow_sub-t
+overflow_sub-t c =
+    let l = leading_less mask_bits c.loop-left.left (omega arith) (omega arith) in omega arith
+
+pub binomial-requires : goal.binomial-requires
+binomial-requires c =
+    let p = placed (goal.at.binomial-requires c).In-loop-left in (c.requires, (omega arith, p.1))
+
+pub overflow_cast-ends : goal.overflow_cast-ends
+overflow_cast-ends c =
+    omega (arith, (rest (goal.at.overflow_cast-ends c).After-binomial).2)
+
+pub overflow_mul-ends : goal.overflow_mul-ends
+overflow_mul-ends c =
+    record { fits = omega (arith, rest-fits (goal.at.overflow_mul-ends c).After-binomial) }
+
+pub overflow_add-ends-in-loop-left : goal.overflow_add-ends-in-loop-left
+overflow_add-ends-in-loop-left c =
+    record { fits = omega (arith, rest-fits (goal.at.overflow_add-ends-in-loop-left c).After-binomial) }
+
+pub bounds-ends-t : goal.bounds-ends-t
+bounds-ends-t c =
+    (placed (goal.at.bounds-ends-t c).In-loop-left).0
+
+pub overflow_sub-i : goal.overflow_sub-i
+overflow_sub-i c =
+    omega (arith, (placed (goal.at.overflow_sub-i c).In-loop-left).2)
+
+pub binomial-requires-in-loop-left : goal.binomial-requires-in-loop-left
+binomial-requires-in-loop-left c =
+    let p = placed (goal.at.binomial-requires-in-loop-left c).In-loop-left in (c.requires, (omega arith, omega arith))
+
+pub overflow_add-sum : goal.overflow_add-sum
+overflow_add-sum c =
+    let i = c.loop-left.i in
+    omega (arith, (rest (goal.at.overflow_add-sum c).After-binomial).2, c.binomial-in-loop-left.ensures, binomial_small (i - 1) (placed (goal.at.overflow_add-sum c).In-loop-left).0)
+
+pub loop-left-smaller : goal.loop-left-smaller
+loop-left-smaller c =
+    rw c.without-left.ensures (without_less _ _ (task (goal.at.loop-left-smaller c).In-loop-left).task)
+
+-- one task more
+pub loop-left-preserved : goal.loop-left-preserved
+loop-left-preserved c =
+    let l = c.loop-left in
+    let a = c.args in
+    let r = rest (goal.at.loop-left-preserved c).After-binomial in
+    rw (c.without-left.ensures, l.invariant.0, c.binomial-in-loop-left.ensures) (
+      rows_one a.points a.k l.left _ _ (placed (goal.at.loop-left-preserved c).In-loop-left).0 r.1,
+      one_lowered l.invariant.1 (task (goal.at.loop-left-preserved c).In-loop-left) r.1,
+    )
+
+pub returns : goal.returns
+returns c =
+    let l = c.loop-left in let a = c.args in record { own = ap (λ (x : ℕ). x * a.points) c.rank-all.ensures.rank; ends = l.invariant.0 ∙ rows_all a.points a.k l.left c.loop-left-test.false }
+
+pub overflow_sub-rest : goal.overflow_sub-rest
+overflow_sub-rest c =
+    (rest (goal.at.overflow_sub-rest c).After-binomial).0
