@@ -22,20 +22,31 @@ pair_in c = let n = pairs_are c.requires.0 in omega arith
 sent-in : (c : After-sender) → c.sender.result < max_tasks
 sent-in c =
     let p = c.requires in
-    rw c.sender.ensures (omega (arith, p.1.sender c.loop-i.i (pair_in c), p.2))
+    let n = pairs_are p.0 in
+    let i : c.loop-i.i < (decode c.args.s.now).pairs = omega arith in
+    rw c.sender.ensures (omega (arith, p.1.sender c.loop-i.i i, p.2))
 
 received-in : (c : After-receiver) → c.receiver.result < max_tasks
 received-in c =
     let p = c.requires in
-    rw c.receiver.ensures (omega (arith, p.1.receiver c.loop-i.i (pair_in c), p.2))
+    let n = pairs_are p.0 in
+    let i : c.loop-i.i < (decode c.args.s.now).pairs = omega arith in
+    rw c.receiver.ensures (omega (arith, p.1.receiver c.loop-i.i i, p.2))
 
 -- whether it is kept is the loop's test
+sent : (c : After-receiver) → c.sender.result < max_tasks
+sent c =
+    let p = c.requires in
+    let n = pairs_are p.0 in
+    let i : c.loop-i.i < (decode c.args.s.now).pairs = omega arith in
+    rw c.sender.ensures (omega (arith, p.1.sender c.loop-i.i i, p.2))
+
 test : (c : After-receiver) →
     let at = c.places-at.result in
     keeps_pair (decode c.args.s.now) c.args.tasks.now c.loop-i.i
     ≡ ltb (get_or at c.sender.result 0) (get_or at c.receiver.result 0)
 test c =
-    as-coded _ _ _ c.places-at.ensures c.sender.ensures (sent-in c) c.receiver.ensures (received-in c)
+    as-coded _ _ _ c.places-at.ensures c.sender.ensures (sent c) c.receiver.ensures (received-in c)
 
 pub loop-i-init : goal.loop-i-init
 loop-i-init c =
@@ -48,6 +59,12 @@ sender-requires c =
 pub receiver-requires : goal.receiver-requires
 receiver-requires c =
     (c.requires.0, pair_in (goal.at.receiver-requires c).In-loop-i)
+
+pub bounds-at-sender : goal.bounds-at-sender
+bounds-at-sender c = sent-in (goal.at.bounds-at-sender c).After-sender
+
+pub bounds-at-receiver : goal.bounds-at-receiver
+bounds-at-receiver c = received-in (goal.at.bounds-at-receiver c).After-receiver
 
 -- a pair is not kept
 pub returns-then-received-sent : goal.returns-then-received-sent

@@ -13,7 +13,7 @@ right c = sym c.wrong_tasks.ensures ∙ c.if-wrong_tasks.false
 pub returns-then-wrong_tasks : goal.returns-then-wrong_tasks
 unfolding read_plan read_tests
 returns-then-wrong_tasks c =
-    let both = rw (sym c.wrong_tasks.ensures ∙ c.if-wrong_tasks.true) (refl, (refl, (refl, refl))) in record { answer = both.0; start = both.1; doors = both.2; cost = both.3 }
+    rw (sym c.wrong_tasks.ensures ∙ c.if-wrong_tasks.true) (record { answer = refl; start = refl; doors = refl; cost = refl })
 
 pub overflow_cast-tasks : goal.overflow_cast-tasks
 overflow_cast-tasks c =
@@ -23,11 +23,12 @@ overflow_cast-tasks c =
 pub returns-then-ill_formed : goal.returns-then-ill_formed
 unfolding read_plan read_tests
 returns-then-ill_formed c =
-    let both = rw (right (goal.at.returns-then-ill_formed c).Else-wrong_tasks, sym c.ill_formed.ensures ∙ c.if-ill_formed.true) (refl, (refl, (refl, refl))) in record { answer = both.0; start = both.1; doors = both.2; cost = both.3 }
+    rw (right (goal.at.returns-then-ill_formed c).Else-wrong_tasks, sym c.ill_formed.ensures ∙ c.if-ill_formed.true)
+    (record { answer = refl; start = refl; doors = refl; cost = refl })
 
 -- the plan is read
 pub returns : goal.returns
 unfolding read_plan read_tests
 returns c =
-    let both = rw (right (goal.at.returns c).Else-wrong_tasks, sym c.ill_formed.ensures ∙ c.if-ill_formed.false)
-    (refl, (c.start_in.ensures, (c.read_doors.ensures, c.cost_in.ensures))) in record { answer = both.0; start = both.1; doors = both.2; cost = both.3 }
+    rw (right (goal.at.returns c).Else-wrong_tasks, sym c.ill_formed.ensures ∙ c.if-ill_formed.false)
+    (record { answer = refl; start = c.start_in.ensures; doors = c.read_doors.ensures; cost = c.cost_in.ensures })

@@ -37,5 +37,5 @@ overflow_sub-length c =
 pub returns : goal.returns
 unfolding plan_doors_at plan_start_at line_at
 returns c =
-    let both = plan_written _ _ _ _ _ _ (right (goal.at.returns c).Else-wrong_tasks) c.byte_length-length.ensures c.if-buf-length.left
+    let both = plan_written _ _ _ _ _ _ (right (goal.at.returns c).Else-wrong_tasks) c.byte_length-length.ensures c.if-buf-length.false
     c.write_head.ensures c.write_u16.ensures c.write_row.ensures c.write_u64.ensures in record { answer = both.0; bytes = both.1 }

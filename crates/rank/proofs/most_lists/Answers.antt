@@ -3,6 +3,7 @@ use Rattle.model.proofs.Basics.{◌≡◌, sym, ◌∙◌, ⊎_elim, suc, ◌-�
 use Rattle.rank.specs.Binomials.{binomial, largest_below, most_lists}
 use Rattle.rank.specs.Ranks.{max_ranked}
 use Rattle.rank.proofs.Binomials.{largest_now, largest_still, most_of, none_of}
+use Rattle.rank.proofs.most_lists.Goals.{then-most-lists, else-most-lists}
 use Rattle.rank.proofs.most_lists.Goals as goal
 
 -- more tasks than the table serves
@@ -21,10 +22,10 @@ loop-k-preserved c =
     let e = c.binomial-lists.ensures in (
       l.invariant.0,
       omega arith,
-      ⊎_elim
-          (λ w. rw w.1 (largest_now l.k _ l.invariant.2 e w.0.taken))
-          (λ w. rw w.1 (largest_still l.k _ l.invariant.2 e w.0.left))
-          c.if-most-lists.branch,
+      elim c.if-most-lists.branch [
+        then-most-lists w ↦ rw w.most-is (largest_now l.k _ l.invariant.2 e w.if-most-lists.true)
+        | else-most-lists w ↦ rw w.most-is (largest_still l.k _ l.invariant.2 e w.if-most-lists.false)
+      ],
     )
 
 pub returns : goal.returns

@@ -30,7 +30,9 @@ rest : (c : After-binomial) →
     (c.binomial.result ≤ l.sum)
     × (x ≡ rank max_ranked (without (c.args.k % 2 ^ max_ranked) (31 - count_leading_zeros mask_bits l.left)))
     × (x < 2 ^ max_ranked)
-rest c = rest_now c.loop-left.invariant.1 (task c) c.binomial.ensures
+rest c =
+    let t : Highest c.loop-left.left (31 - count_leading_zeros mask_bits c.loop-left.left) = highest mask_bits _ (omega arith) (omega arith) in
+    rest_now c.loop-left.invariant.1 t c.binomial.ensures
 
 -- and where its row ends
 rest-fits : (c : After-binomial) →
@@ -51,8 +53,8 @@ unfolding rank_of map_below
 loop-left-init c =
     let a = c.args in
     let r = c.rank-all.ensures in (
-      rows_none a.points a.k _ r.0,
-      none_lowered _ _ (omega arith) r.0 (r.1 ∙ sym (size_mask max_ranked a.k)),
+      rows_none a.points a.k _ r.rank,
+      none_lowered _ _ (omega arith) r.rank (r.size ∙ sym (size_mask max_ranked a.k)),
     )
 
 pub overflow_sub-t : goal.overflow_sub-t
