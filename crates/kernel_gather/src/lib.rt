@@ -1,4 +1,6 @@
 // Gathers the doors of a set, in the order of their numbers: where the column of each begins, and the part of its cost that does not hang on the point.
+#![tactic(auto)]
+
 ghost use Rattle.std.specs.Prelude.{◌≡◌, map, ℕ, ◌<◌, length, get_or};
 ghost use Rattle.model.specs.Bytes.{overwrite};
 ghost use Rattle.kernel_gather.specs.Gathering.{doors_in, part_at, Gatherable};

@@ -1,5 +1,7 @@
 // The list at hand, by the prepared numbers: who waits for its tasks, and so whether it is essential and which of its tasks can come first; its load; and what is charged while
 // it is open.
+#![tactic(auto)]
+
 ghost use Rattle.std.specs.Prelude.{◌≡◌, not, ◌||◌, ℕ, ◌+◌, ◌^◌, ◌≤◌, ◌<◌, pos, length, get_or};
 ghost use Rattle.model.specs.Folds.{all_below, map_below};
 ghost use Rattle.model.specs.Bytes.{overwrite};

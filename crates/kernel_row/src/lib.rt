@@ -1,5 +1,7 @@
 // A row of the table of costs to go: for each point, the least cost through the doors that were gathered. It knows no list, no sheet and no bytes, and so serves wherever a
 // row is wanted; of floats it knows only that numbers stand in them.
+#![tactic(auto)]
+
 ghost use Rattle.std.specs.Prelude.{◌≡◌, ℕ, ◌+◌, ◌*◌, ◌^◌, ◌≤◌, ◌<◌, min, length, get_or};
 ghost use Rattle.model.specs.Folds.{map_below};
 ghost use Rattle.model.specs.SheetLayout.{max_points};

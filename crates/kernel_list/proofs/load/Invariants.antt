@@ -1,0 +1,11 @@
+-- The loop's sum is the end load and the changes of the tasks passed. Each of them has 16 bits, so that 32 hold the sum of all; and it is not below zero where
+use Rattle.model.proofs.Basics.{ℕ}
+use Rattle.kernel_list.proofs.Walks.{Left}
+use Rattle.kernel_list.proofs.Loads.{LoadBelow}
+use Rattle.kernel_list.proofs.load.Given as goal
+
+abbrev pub invariant-loop-left : goal.invariant-loop-left
+invariant-loop-left l = (u : ℕ) × Left l.k l.left u × LoadBelow l.end_load l.change l.k u l.sum
+
+abbrev pub decreases-loop-left : goal.decreases-loop-left
+decreases-loop-left l = l.left

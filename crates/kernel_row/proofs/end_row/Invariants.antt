@@ -1,0 +1,10 @@
+-- Point after point from the front. Assumes nothing.
+use Rattle.model.proofs.Basics.{◌-◌, length, get_or}
+use Rattle.model.proofs.Tools.Arrays.{Filled}
+use Rattle.kernel_row.proofs.end_row.Given as goal
+
+abbrev pub invariant-loop-p : goal.invariant-loop-p
+invariant-loop-p l = Filled (λ q. get_or l.ends q 0) l.initial.out l.out l.p
+
+abbrev pub decreases-loop-p : goal.decreases-loop-p
+decreases-loop-p l = length l.initial.out - l.p
