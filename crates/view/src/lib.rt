@@ -33,7 +33,7 @@ pub const MAX_TASKS: usize = 12;
 pub const MAX_DOORS: usize = 64;
 
 // The places of the bodies behind the first, each where the one before ends.
-#[derive(Drop)]
+#[derive(Clone, Copy)]
 pub struct Places {
     pub doors: u32,
     pub starts: u32,
@@ -44,7 +44,7 @@ pub struct Places {
 }
 
 // The counts of a sheet and the places of its bodies.
-#[derive(Drop)]
+#[derive(Clone, Copy)]
 pub struct View {
     pub tasks: u16,
     pub doors: u16,
