@@ -1,4 +1,6 @@
 // What an access rule costs at its door, in kilogram decametres.
+#![tactic(auto)]
+
 ghost use Rattle.std.specs.Prelude.{◌≡◌, ◌^◌, ◌<◌};
 ghost use Rattle.model.specs.SheetLayout.{decode};
 ghost use Rattle.model.specs.Cost.{rule_charge};

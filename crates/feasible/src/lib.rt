@@ -1,4 +1,6 @@
 // Whether a sheet can be served at all: faults 15 and 17, over the view of a sheet that 10 to 14 do not refuse.
+#![tactic(auto)]
+
 ghost use Rattle.std.specs.Prelude.{◌≡◌, ℕ, ◌≤◌, ◌<◌, length};
 ghost use Rattle.model.specs.Folds.{map_below};
 ghost use Rattle.model.specs.SheetLayout.{max_tasks, decode};

@@ -1,4 +1,6 @@
 // Fault 14: tasks, points, doors, least counts and watched tasks within their ranges.
+#![tactic(auto)]
+
 ghost use Rattle.std.specs.Prelude.{◌≡◌, ◌<◌, min};
 ghost use Rattle.model.specs.SheetLayout.{layout_of, decode};
 ghost use Rattle.model.specs.Faults.{bad_door, bad_start, bad_pair, some_bad_door, some_bad_start, some_bad_pair, some_bad_rule, out_of_range};
