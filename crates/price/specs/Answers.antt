@@ -20,6 +20,6 @@ place_of (Fitting.Fits v) = accepted (record { layer = v.tasks % 2; cells = v.po
 place_of (Fitting.Refused r) = refused (number_of r)
 
 -- the view in it, and w where it has none
-abbrev pub viewIn : Fitting → View → View
-viewIn (Fitting.Fits v) w = v
-viewIn (Fitting.Refused r) w = w
+abbrev pub view_in : Fitting → View → View
+view_in (Fitting.Fits v) w = v
+view_in (Fitting.Refused r) w = w

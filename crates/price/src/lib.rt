@@ -7,7 +7,7 @@ ghost use Rattle.model.specs.Faults.{read_sheet};
 ghost use Rattle.view.specs.Views.{view_of};
 ghost use Rattle.kernel_start.specs.Choosing.{start_cost, first_start, Startable};
 ghost use Rattle.price.specs.Pricing.{price, LayersAfter, price_row, row_place};
-ghost use Rattle.price.specs.Answers.{answer_of, place_of, viewIn};
+ghost use Rattle.price.specs.Answers.{answer_of, place_of, view_in};
 
 use kernel_sheet::{MAX_DISTANCES, MAX_STARTS};
 use refusal::Refusal;
@@ -41,7 +41,7 @@ pub enum Pricing {
 // Tests whether the sheet s can be priced in two layers of so many cells.
 pub fn fit(s: &[u8], even: usize, odd: usize) -> Fitting
     ensures place { place_of result ≡ row_place s.now even odd }
-    ensures view { viewIn result (view_of s.now) ≡ view_of s.now }
+    ensures view { view_in result (view_of s.now) ≡ view_of s.now }
 {
     let reading = sheet::read(s);
     match reading {
@@ -54,7 +54,7 @@ pub fn fit(s: &[u8], even: usize, odd: usize) -> Fitting
 fn fit_sheet(s: &[u8], v: View, even: usize, odd: usize) -> Fitting
     requires { (status (read_sheet s.now) ≡ 0) × (v ≡ view_of s.now) }
     ensures place { place_of result ≡ row_place s.now even odd }
-    ensures view { viewIn result (view_of s.now) ≡ view_of s.now }
+    ensures view { view_in result (view_of s.now) ≡ view_of s.now }
 {
     let needed = rank::most_lists(v.tasks) as usize * v.points as usize;
     if (even < needed) | (odd < needed) {

@@ -12,6 +12,6 @@ answer_of (Read v) = accepted (record { tasks = v.tasks; points = v.points })
 answer_of (Refused r) = refused (number_of r)
 
 -- the view that reading hands on; where it refuses, the other one
-abbrev pub viewIn : Reading → View → View
-viewIn (Read v) w = v
-viewIn (Refused r) w = w
+abbrev pub view_in : Reading → View → View
+view_in (Read v) w = v
+view_in (Refused r) w = w

@@ -3,7 +3,7 @@ ghost use Rattle.std.specs.Prelude.{◌≡◌};
 ghost use Rattle.model.specs.Faults.{read_sheet};
 ghost use Rattle.view.specs.Views.{view_of};
 ghost use Rattle.sheet.specs.Layouts.{LaidOut};
-ghost use Rattle.sheet.specs.Answers.{answer_of, viewIn};
+ghost use Rattle.sheet.specs.Answers.{answer_of, view_in};
 
 use refusal::Refusal;
 use view::View;
@@ -20,7 +20,7 @@ pub enum Reading {
 // Reads a sheet. The first fault that applies is the answer.
 pub fn read(s: &[u8]) -> Reading
     ensures answer { answer_of result ≡ read_sheet s.now }
-    ensures view { viewIn result (view_of s.now) ≡ view_of s.now }
+    ensures view { view_in result (view_of s.now) ≡ view_of s.now }
 {
     if layout::too_short(s) {
         return Reading::Refused(Refusal::TooShort);
@@ -41,7 +41,7 @@ pub fn read(s: &[u8]) -> Reading
 fn read_bodies(s: &[u8], v: View) -> Reading
     requires { LaidOut s.now × (v ≡ view_of s.now) }
     ensures answer { answer_of result ≡ read_sheet s.now }
-    ensures view { viewIn result (view_of s.now) ≡ view_of s.now }
+    ensures view { view_in result (view_of s.now) ≡ view_of s.now }
 {
     if range::out_of_range(s, v) {
         return Reading::Refused(Refusal::OutOfRange);

@@ -1,8 +1,8 @@
 -- The three demands on the product, as three theorems over the predicates of specs/: `demand_1`, `demand_2` and `demand_3`, each from the theorems on
 -- its call. Assumes nothing.
-use Rattle.model.proofs.Basics.{◌≡◌, refl, sym, ap, ◌∙◌, ◌⊎◌, inl, inr, ⊎_elim, ◌↔◌, true, false, List, some, ℕ, ◌+◌, ◌*◌, ◌^◌, ◌<◌}
+use Rattle.model.proofs.Basics.{◌≡◌, refl, sym, ap, ◌∙◌, ◌⊎◌, inl, inr, ⊎_elim, ◌↔◌, true, List, some, ℕ, ◌+◌, ◌*◌, ◌^◌, ◌<◌}
 use Rattle.model.proofs.Basics.{lt_of_lt_of_le, lit≤, length, get_or, take, drop, replicate, digits_lt}
-use Rattle.model.specs.{Examples.sheet_a, no_order, pairs_allow, cost, Plan, is_solution, plan_cost, cheapest, cost_to_go, refused, accepted}
+use Rattle.model.specs.{Examples.sheet_a, no_order, pairs_allow, Plan, is_solution, plan_cost, cheapest, cost_to_go, refused, accepted}
 use Rattle.model.specs.{decode, read_sheet, max_plan_doors, plan_length, plan_bytes, door_array, read_plan, validate, cells_needed}
 use Rattle.model.specs.{or_no_order, plan_for, carried_out, plan, CountsWithin, too_light, unless_fault, LoadsHold, SomeTooLight}
 use Rattle.model.specs.Demands.{Cheapest, Demand1, Demand2, Demand3, Lent, LegsHold, SomeOrder, NoOrder}

@@ -5,7 +5,7 @@ use Rattle.model.proofs.Basics.{ltb, eqb-true, eq-eqb, ltb-true}
 use Rattle.model.specs.{Sheet.Sheet, flat_map_below, lists_below, all_in, first_least, least, without, size, mask_of, is_order_within}
 use Rattle.model.specs.{can_come_first, step_cost, cost, in_sheet, is_completion, completions, cost_to_go, cheapest_completion, InRange}
 use Rattle.model.proofs.Tools.{Tests.same_test, Tests.and_right, Tests.and_left_comm, Tests.by_test, Folds.flat_cong}
-use Rattle.model.proofs.Tools.{Folds.keep_cong, Lists.All, Lists.all_kept, Lists.map_cong, Choices.first_cong, Searches.next}
+use Rattle.model.proofs.Tools.{Folds.keep_cong, Lists.All, Lists.all_kept, Lists.map_cong, Choices.first_cong}
 use Rattle.model.proofs.TaskLists.Masks.{without_le, size_none, size_without}
 use Rattle.model.proofs.Theory.Process.{Process, completes, runs, run_cost, to_go, best_run, runs_end, runs_by_first}
 use Rattle.model.proofs.Theory.FirstTask.{within_cons, first_bit, nil_size, size_nil, mask_is}

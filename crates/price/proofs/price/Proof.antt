@@ -2,7 +2,7 @@
 use Rattle.model.proofs.Basics.{refl, sym, ap, ◌∙◌, needs}
 use Rattle.model.specs.{status}
 use Rattle.view.specs.Views.{view_of}
-use Rattle.price.specs.Answers.{place_of, viewIn}
+use Rattle.price.specs.Answers.{place_of, view_in}
 use Rattle.price.specs.declared.Fitting.{Fitting}
 use Rattle.price.proofs.Fits.{price_refused}
 use Rattle.price.proofs.price.Statement.{statement}
@@ -14,7 +14,7 @@ price-sheet-requires c κs =
     let b = m.before.before.before.before.before.before.args.s.now in
     let e = m.fitting.given.1 in
     let r = m.before.before.fit.ensures in
-    (ap status (sym r.0) ∙ ap (λ (x : Fitting). status (place_of x)) e, ap (λ (x : Fitting). viewIn x (view_of b)) (sym e) ∙ r.1)
+    (ap status (sym r.0) ∙ ap (λ (x : Fitting). status (place_of x)) e, ap (λ (x : Fitting). view_in x (view_of b)) (sym e) ∙ r.1)
 
 -- refused
 returns-2 : tie.Need-returns-2

@@ -5,7 +5,7 @@ use Rattle.view.proofs.Counted.{tasks_are, points_are}
 use Rattle.sheet.proofs.Laid.{viewed, reads_laid}
 use Rattle.kernel_layers.proofs.Layering.{row_within}
 use Rattle.price.specs.Pricing.{row_place}
-use Rattle.price.specs.Answers.{place_of, viewIn}
+use Rattle.price.specs.Answers.{place_of, view_in}
 use Rattle.price.specs.declared.Fitting.{Fitting}
 use Rattle.price.proofs.Fits.{Fits, fits, row_there, row_none}
 use Rattle.price.proofs.row.Statement.{statement}
@@ -21,7 +21,7 @@ fitted c = (fits _ _ _ _ (sym c.before.before.before.fit.ensures.0 ∙ ap place_
 
 seen : (c : tie.After-known-told) → Viewed (entered c).args.s.now c.before.fitting.given.0.0
 seen c = viewed (reads_laid (fitted c).reads)
-    (ap (λ (x : Fitting). viewIn x (view_of (entered c).args.s.now)) (sym c.before.fitting.given.1) ∙ c.before.before.before.fit.ensures.1)
+    (ap (λ (x : Fitting). view_in x (view_of (entered c).args.s.now)) (sym c.before.fitting.given.1) ∙ c.before.before.before.fit.ensures.1)
 
 whole-requires : tie.Need-whole-requires
 whole-requires c κs = rw (points_are (seen c)) (row_within _ (fitted c).even_room, row_within _ (fitted c).odd_room)

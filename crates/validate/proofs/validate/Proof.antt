@@ -2,7 +2,7 @@
 use Rattle.model.proofs.Basics.{sym, ap, ◌∙◌, needs}
 use Rattle.model.specs.{status}
 use Rattle.view.specs.Views.{view_of}
-use Rattle.sheet.specs.Answers.{answer_of, viewIn}
+use Rattle.sheet.specs.Answers.{answer_of, view_in}
 use Rattle.sheet.specs.declared.Reading.{Reading}
 use Rattle.validate.proofs.Judging.{sheet_refused}
 use Rattle.validate.proofs.validate.Statement.{statement}
@@ -14,7 +14,7 @@ validate-plan-requires c κs =
     let b = m.before.before.before.before.before.args.s.now in
     let e = m.reading.given.1 in
     let r = m.before.before.read.ensures in
-    (ap status (sym r.0) ∙ ap (λ (x : Reading). status (answer_of x)) e, ap (λ (x : Reading). viewIn x (view_of b)) (sym e) ∙ r.1)
+    (ap status (sym r.0) ∙ ap (λ (x : Reading). status (answer_of x)) e, ap (λ (x : Reading). view_in x (view_of b)) (sym e) ∙ r.1)
 
 returns-2 : tie.Need-returns-2
 returns-2 c = sheet_refused _ _ (ap answer_of (sym c.before.reading2.given.1) ∙ c.before.before.before.read.ensures.0)
