@@ -1,7 +1,7 @@
 -- The tasks done before place i are a list with each of them once: a task that is in it is done twice. Assumes nothing.
-use Rattle.model.proofs.Basics.{sym, ◌∙◌, ◌-◌, length, rules}
+use Rattle.model.proofs.Basics.{sym, ◌∙◌}
 use Rattle.model.specs.{decode}
-use Rattle.checks.proofs.Placing.{DoneTo, none_done, done_again, done_next, all_once}
+use Rattle.checks.proofs.Placing.{none_done, done_again, done_next, all_once}
 use Rattle.checks.proofs.done_twice.Goals as goal
 
 pub loop-i-init : goal.loop-i-init

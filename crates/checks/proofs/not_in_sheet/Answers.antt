@@ -1,9 +1,8 @@
 -- With the start in the sheet the doors decide, and each door before place i is in it: where one is not, the loop ends. Assumes nothing.
-use Rattle.model.proofs.Basics.{◌≡◌, sym, ap, Bool, true, not, List, ℕ, ◌-◌, ◌≤◌, ◌<◌, arith, ltb, length, lt-ltb, le-ltb, le-leb, lt-leb}
-use Rattle.model.proofs.Basics.{rules}
+use Rattle.model.proofs.Basics.{◌≡◌, sym, ap, Bool, true, not, List, ℕ, ◌≤◌, ◌<◌, arith, ltb, lt-ltb, le-ltb, le-leb, lt-leb}
 use Rattle.model.specs.{all_in, in_sheet, not_in_sheet}
 use Rattle.model.specs.Sheet.{Sheet}
-use Rattle.model.proofs.Tools.Walks.{PassedTo, pass_next, pass_fails, pass_all}
+use Rattle.model.proofs.Tools.Walks.{pass_next, pass_fails, pass_all}
 use Rattle.view.proofs.Counted.{starts_are, doors_are}
 use Rattle.checks.proofs.not_in_sheet.Goals as goal
 
@@ -15,7 +14,6 @@ module _ (S : Sheet) (start : ℕ) (ds : List ℕ) {starts : ℕ} (e : starts �
   then-doors : {limit : ℕ} {t : Bool} → start < starts → limit ≡ S.doors → all_in (λ d. ltb d limit) ds ≡ t → not t ≡ not_in_sheet S start ds
   unfolding not_in_sheet in_sheet
   then-doors l q h = rw (lt-leb S.starts start (omega arith), ← q) (sym (ap not h))
-
 
 -- the start is not in the sheet
 pub returns-then-v-start : goal.returns-then-v-start

@@ -1,7 +1,5 @@
 -- From place i on, the array has where each task is first done: going down, an earlier place takes a later one's. Assumes nothing.
-use Rattle.model.proofs.Basics.{refl, ◌-◌, ◌<◌, arith, get_or, rules}
-use Rattle.model.specs.{max_tasks}
-use Rattle.checks.proofs.Placing.{PlacedFrom, none_placed, x_in, one_placed, all_placed}
+use Rattle.checks.proofs.Placing.{PlacedFrom}
 use Rattle.checks.proofs.places.Given as goal
 
 abbrev pub invariant-loop-i : goal.invariant-loop-i

@@ -1,7 +1,7 @@
 -- The loop has put the task of each door before place i in its place. Assumes nothing.
-use Rattle.model.proofs.Basics.{refl, ◌-◌, ◌≤◌, arith, length, get_or, replicate, rules}
-use Rattle.model.specs.{decode, max_plan_doors}
-use Rattle.model.proofs.Tools.Arrays.{Filled, none_filled, one_filled}
+use Rattle.model.proofs.Basics.{refl, arith, rules}
+use Rattle.model.specs.{decode}
+use Rattle.model.proofs.Tools.Arrays.{none_filled, one_filled}
 use Rattle.model.proofs.Theory.Solutions.{door_in_lem}
 use Rattle.checks.proofs.Placing.{all_mapped}
 use Rattle.checks.proofs.tasks_of.Goals as goal

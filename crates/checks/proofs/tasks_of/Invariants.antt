@@ -1,9 +1,7 @@
 -- The loop has put the task of each door before place i in its place. Assumes nothing.
-use Rattle.model.proofs.Basics.{refl, ◌-◌, ◌≤◌, arith, length, get_or, replicate, rules}
+use Rattle.model.proofs.Basics.{◌-◌, ◌≤◌, length, get_or, replicate}
 use Rattle.model.specs.{decode, max_plan_doors}
-use Rattle.model.proofs.Tools.Arrays.{Filled, none_filled, one_filled}
-use Rattle.model.proofs.Theory.Solutions.{door_in_lem}
-use Rattle.checks.proofs.Placing.{all_mapped}
+use Rattle.model.proofs.Tools.Arrays.{Filled}
 use Rattle.checks.proofs.tasks_of.Given as goal
 
 abbrev pub invariant-loop-i : goal.invariant-loop-i

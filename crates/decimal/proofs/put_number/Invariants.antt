@@ -1,6 +1,6 @@
 -- Each turn stores the last digit of what is left in front of those found, until nothing is left; the digits are then written as a text. Assumes nothing.
-use Rattle.model.proofs.Basics.{◌≡◌, refl, arith, length, length-set, rules}
-use Rattle.decimal.proofs.Spelling.{Spelt, none_spelt, one_spelt, all_spelt}
+use Rattle.model.proofs.Basics.{◌≡◌, length}
+use Rattle.decimal.proofs.Spelling.{Spelt}
 use Rattle.decimal.proofs.put_number.Given as goal
 
 abbrev pub invariant-loop-rest : goal.invariant-loop-rest

@@ -1,6 +1,6 @@
 -- A text that does not fit is not begun; each turn writes one byte behind those that are written. Assumes nothing.
-use Rattle.model.proofs.Basics.{refl, ◌-◌, arith, rules}
-use Rattle.decimal.proofs.Placing.{unwritten, as_many, Copied, none_copied, same_room, one_copied, all_copied}
+use Rattle.model.proofs.Basics.{refl, arith}
+use Rattle.decimal.proofs.Placing.{unwritten, as_many, none_copied, same_room, one_copied, all_copied}
 use Rattle.decimal.proofs.put_text.Goals as goal
 
 -- `at` lies behind the end

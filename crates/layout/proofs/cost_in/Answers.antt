@@ -1,5 +1,4 @@
 -- The cost is read where the definition reads it. Assumes nothing.
-use Rattle.model.proofs.Basics.{rules}
 use Rattle.model.specs.{line_at, cost_in, plan_cost_at, plan_doors_at, plan_start_at}
 use Rattle.layout.proofs.cost_in.Goals as goal
 

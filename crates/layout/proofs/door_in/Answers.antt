@@ -1,5 +1,4 @@
 -- The door is read where the definition reads it. Assumes nothing.
-use Rattle.model.proofs.Basics.{rules}
 use Rattle.model.specs.{line_at, door_in, plan_doors_at, plan_start_at}
 use Rattle.layout.proofs.door_in.Goals as goal
 

@@ -1,5 +1,5 @@
 -- The head is compared only where the length is right, so that there are bytes enough for it. Assumes nothing.
-use Rattle.model.proofs.Basics.{◌≡◌, ap, ◌∙◌, ◌≢◌, not, arith, length, eq-eqb, ne_eqb, rules}
+use Rattle.model.proofs.Basics.{◌≡◌, ap, ◌∙◌, ◌≢◌, not, arith, length, eq-eqb, ne_eqb}
 use Rattle.model.specs.{plan_doors_at, plan_cost_at, plan_length, wrong_head, ill_formed}
 use Rattle.model.proofs.Tools.Tests.{or_last}
 use Rattle.layout.proofs.ill_formed.Goals as goal

@@ -1,7 +1,7 @@
 -- The array is filled from the front, with a door while i is below n and with 0 from there on. Assumes nothing.
-use Rattle.model.proofs.Basics.{refl, ⊎_elim, cond, ◌-◌, ltb, length, lt-ltb, le-ltb, rules}
-use Rattle.model.specs.{door_in, door_array}
-use Rattle.model.proofs.Tools.Arrays.{Filled, none_filled, one_filled, all_filled}
+use Rattle.model.proofs.Basics.{refl, lt-ltb, le-ltb}
+use Rattle.model.specs.{door_array}
+use Rattle.model.proofs.Tools.Arrays.{none_filled, one_filled, all_filled}
 use Rattle.layout.proofs.read_doors.Goals.{then-i-n, else-i-n}
 use Rattle.layout.proofs.read_doors.Goals as goal
 

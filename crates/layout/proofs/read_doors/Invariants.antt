@@ -1,7 +1,7 @@
 -- The array is filled from the front, with a door while i is below n and with 0 from there on. Assumes nothing.
-use Rattle.model.proofs.Basics.{refl, ⊎_elim, cond, ◌-◌, ltb, length, lt-ltb, le-ltb, rules}
-use Rattle.model.specs.{door_in, door_array}
-use Rattle.model.proofs.Tools.Arrays.{Filled, none_filled, one_filled, all_filled}
+use Rattle.model.proofs.Basics.{cond, ◌-◌, ltb, length}
+use Rattle.model.specs.{door_in}
+use Rattle.model.proofs.Tools.Arrays.{Filled}
 use Rattle.layout.proofs.read_doors.Given as goal
 
 abbrev pub invariant-loop-i : goal.invariant-loop-i

@@ -1,5 +1,4 @@
 -- The start is read where the definition reads it. Assumes nothing.
-use Rattle.model.proofs.Basics.{rules}
 use Rattle.model.specs.{line_at, start_in, plan_start_at}
 use Rattle.layout.proofs.start_in.Goals as goal
 

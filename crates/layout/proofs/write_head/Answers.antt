@@ -1,5 +1,4 @@
 -- The head is a row of numbers, and the row is written or left as a whole. Assumes nothing.
-use Rattle.model.proofs.Basics.{rules}
 use Rattle.layout.proofs.Heads.{head_written}
 use Rattle.layout.proofs.write_head.Goals as goal
 

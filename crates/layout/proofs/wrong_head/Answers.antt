@@ -1,10 +1,9 @@
 -- The head is a row of numbers that fit their bytes, so it stands in the bytes exactly where each number is read there. Assumes nothing.
-use Rattle.model.proofs.Basics.{sym, ◌∙◌, ◌-◌, arith, eq-eqb, rules}
+use Rattle.model.proofs.Basics.{sym, ◌∙◌, arith, eq-eqb}
 use Rattle.model.specs.{wrong_head}
 use Rattle.model.proofs.Tools.Elements.{are_bytes_lem}
-use Rattle.model.proofs.Tools.Searches.{PassedBelow, none_tried, passed_on}
-use Rattle.layout.specs.Heads.{head_count}
-use Rattle.layout.proofs.Heads.{same_at, Comparable, one_differs, none_differs}
+use Rattle.model.proofs.Tools.Searches.{none_tried, passed_on}
+use Rattle.layout.proofs.Heads.{Comparable, one_differs, none_differs}
 use Rattle.layout.proofs.wrong_head.Goals.{After-head-numbers}
 use Rattle.layout.proofs.wrong_head.Goals as goal
 

@@ -1,5 +1,5 @@
 -- The first two comparisons say that n is outside 1 to 12. Assumes nothing.
-use Rattle.model.proofs.Basics.{◌≡◌, ◌⊎◌, refl, ap, ◌∙◌, sym, ⊎_elim, ℕ, ◌<◌, ◌≤◌, true, false, not, ltb, ◌||◌, lt-ltb, le-ltb}
+use Rattle.model.proofs.Basics.{◌≡◌, ◌⊎◌, refl, ap, ⊎_elim, ℕ, ◌<◌, ◌≤◌, true, false, not, ltb, ◌||◌, lt-ltb, le-ltb}
 use Rattle.model.specs.{is_between, max_plan_doors, wrong_tasks}
 use Rattle.model.proofs.Tools.Tests.{or_last, outside}
 use Rattle.layout.proofs.wrong_tasks.Goals as goal

@@ -6,28 +6,28 @@ use Rattle.lines.proofs.Laying.{wrote, put_on, few}
 use Rattle.lines.proofs.labelled.Goals.{After-put_number, After-put_text}
 use Rattle.lines.proofs.labelled.Goals as goal
 
-label-laid : (c : After-put_text) →
+label_laid : (c : After-put_text) →
     let a = c.args in
     Laid a.at a.label.now a.out.now c.put_text.new.out (a.at + c.put_text.result)
-label-laid c = wrote (omega arith) c.put_text.ensures.written c.put_text.ensures.bytes
+label_laid c = wrote (omega arith) c.put_text.ensures.written c.put_text.ensures.bytes
 
-both-laid : (c : After-put_number) →
+both_laid : (c : After-put_number) →
     let a = c.args in
     Laid a.at (labelled a.label.now a.n) a.out.now c.put_number.new.out (a.at + c.put_text.result + c.put_number.result)
 unfolding labelled
-both-laid c =
+both_laid c =
     let l : Laid c.args.at c.args.label.now c.args.out.now c.put_text.new.out (c.args.at + c.put_text.result) =
         wrote (omega arith) c.put_text.ensures.written c.put_text.ensures.bytes in
     put_on l (decimal _) (omega (arith, few _ c.ranges.n.fits)) c.put_number.ensures.written c.put_number.ensures.bytes
 
 pub overflow_add-behind : goal.overflow_add-behind
 overflow_add-behind c =
-    record { fits = omega (arith, (label-laid (goal.at.overflow_add-behind c).After-put_text).within) }
+    record { fits = omega (arith, (label_laid (goal.at.overflow_add-behind c).After-put_text).within) }
 
 pub overflow_add-result : goal.overflow_add-result
 overflow_add-result c =
-    record { fits = omega (arith, (both-laid (goal.at.overflow_add-result c).After-put_number).within) }
+    record { fits = omega (arith, (both_laid (goal.at.overflow_add-result c).After-put_number).within) }
 
 pub returns : goal.returns
 returns c =
-    both-laid (goal.at.returns c).After-put_number
+    both_laid (goal.at.returns c).After-put_number

@@ -1,5 +1,5 @@
 -- The sum is below 2 ^ 62, so that it does not wrap and is no pattern of a NaN. Assumes nothing.
-use Rattle.model.proofs.Basics.{refl, arith, rules}
+use Rattle.model.proofs.Basics.{refl, arith}
 use Rattle.minimum.specs.Floats.{float_of}
 use Rattle.minimum.proofs.Patterns.{a_pattern}
 use Rattle.minimum.proofs.float_of.Goals as goal

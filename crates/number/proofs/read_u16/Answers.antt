@@ -1,5 +1,4 @@
 -- Two halves of a byte each, by one law. From the end on nothing is read, so the place of the second half cannot wrap. Assumes nothing.
-use Rattle.model.proofs.Basics.{rules}
 use Rattle.number.proofs.Bytes.{number_beyond, both_halves}
 use Rattle.number.proofs.read_u16.Goals as goal
 

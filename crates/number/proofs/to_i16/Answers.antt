@@ -1,5 +1,4 @@
 -- From 32,768 on the number less 65,536 is taken in 32 bits and fits 16. Assumes nothing.
-use Rattle.model.proofs.Basics.{rules}
 use Rattle.number.proofs.Signs.{signed_small, less_fits, less_narrow, signed_large}
 use Rattle.number.proofs.to_i16.Goals as goal
 

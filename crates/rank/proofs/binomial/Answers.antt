@@ -1,5 +1,4 @@
 -- The table has the binomials. Assumes nothing.
-use Rattle.model.proofs.Basics.{rules}
 use Rattle.rank.specs.Ranks.{Tabled}
 use Rattle.rank.proofs.binomial.Goals as goal
 

@@ -1,7 +1,6 @@
 -- The largest so far of the binomials of n, for each number of tasks. Assumes nothing.
-use Rattle.model.proofs.Basics.{◌≡◌, sym, ◌∙◌, ⊎_elim, suc, ◌-◌, ◌≤◌, arith, rules}
-use Rattle.rank.specs.Binomials.{binomial, largest_below, most_lists}
-use Rattle.rank.specs.Ranks.{max_ranked}
+use Rattle.model.proofs.Basics.{◌≡◌, sym, ◌∙◌, suc, arith}
+use Rattle.rank.specs.Binomials.{most_lists}
 use Rattle.rank.proofs.Binomials.{largest_now, largest_still, most_of, none_of}
 use Rattle.rank.proofs.most_lists.Goals.{then-most-lists, else-most-lists}
 use Rattle.rank.proofs.most_lists.Goals as goal
@@ -23,7 +22,7 @@ loop-k-preserved c =
       l.invariant.0,
       omega arith,
       elim c.if-most-lists.branch [
-        then-most-lists w ↦ rw w.most-is (largest_now l.k _ l.invariant.2 e w.if-most-lists.true)
+        | then-most-lists w ↦ rw w.most-is (largest_now l.k _ l.invariant.2 e w.if-most-lists.true)
         | else-most-lists w ↦ rw w.most-is (largest_still l.k _ l.invariant.2 e w.if-most-lists.false)
       ],
     )

@@ -1,8 +1,7 @@
 -- The largest so far of the binomials of n, for each number of tasks. Assumes nothing.
-use Rattle.model.proofs.Basics.{◌≡◌, sym, ◌∙◌, ⊎_elim, suc, ◌-◌, ◌≤◌, arith, rules}
-use Rattle.rank.specs.Binomials.{binomial, largest_below, most_lists}
+use Rattle.model.proofs.Basics.{◌≡◌, suc, ◌-◌, ◌≤◌}
+use Rattle.rank.specs.Binomials.{binomial, largest_below}
 use Rattle.rank.specs.Ranks.{max_ranked}
-use Rattle.rank.proofs.Binomials.{largest_now, largest_still, most_of, none_of}
 use Rattle.rank.proofs.most_lists.Given as goal
 
 abbrev pub invariant-loop-k : goal.invariant-loop-k

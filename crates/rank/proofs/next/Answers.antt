@@ -1,5 +1,5 @@
 -- The lowest run is carried, and what it has besides its highest task goes to the bottom. Assumes nothing.
-use Rattle.model.proofs.Basics.{arith, rules}
+use Rattle.model.proofs.Basics.{arith}
 use Rattle.model.specs.{mask_bits}
 use Rattle.rank.proofs.Following.{NextFound, next_found}
 use Rattle.rank.proofs.next.Goals.{Start}

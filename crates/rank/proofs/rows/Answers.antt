@@ -1,18 +1,18 @@
 -- Task by task from the highest, the row of the list without it; the sum then has the task one place lower. Assumes nothing.
-use Rattle.model.proofs.Basics.{◌≡◌, sym, ap, ◌∙◌, ℕ, ◌+◌, ◌-◌, ◌*◌, ◌%◌, ◌^◌, ◌≤◌, ◌<◌, arith, rules}
+use Rattle.model.proofs.Basics.{◌≡◌, sym, ap, ◌∙◌, ℕ, ◌+◌, ◌-◌, ◌*◌, ◌%◌, ◌^◌, ◌≤◌, ◌<◌, arith}
 use Rattle.model.specs.{map_below, without, mask_bits}
 use lib.Count.{count_leading_zeros}
 use Rattle.rank.specs.Ranks.{rank, max_ranked, rank_of}
 use Rattle.rank.proofs.Binomials.{binomial_small}
 use Rattle.rank.proofs.Ends.{leading_less, Highest, highest, without_less, size_mask}
-use Rattle.rank.proofs.Rests.{Lowering, none_lowered, one_lowered, rest_now, lower_fits, rank_small, row_fits, rows_while, rows_none, rows_one}
+use Rattle.rank.proofs.Rests.{none_lowered, one_lowered, rest_now, lower_fits, rank_small, row_fits, rows_none, rows_one}
 use Rattle.rank.proofs.Rests.{rows_all}
 use Rattle.rank.proofs.rows.Goals.{After-binomial, After-rank-all, In-loop-left}
 use Rattle.rank.proofs.rows.Goals as goal
 
 -- the end of the list's own row
-own-fits : (c : After-rank-all) → let points = c.args.points in c.rank-all.result.rank * points + points < 2 ^ 33
-own-fits c = row_fits (rw c.rank-all.ensures.rank (rank_small _)) (omega arith)
+own_fits : (c : After-rank-all) → let points = c.args.points in c.rank-all.result.rank * points + points < 2 ^ 33
+own_fits c = row_fits (rw c.rank-all.ensures.rank (rank_small _)) (omega arith)
 
 -- the task of the turn
 task : (c : In-loop-left) → Highest c.loop-left.left (31 - count_leading_zeros mask_bits c.loop-left.left)
@@ -35,17 +35,17 @@ rest c =
     rest_now c.loop-left.invariant.1 t c.binomial.ensures
 
 -- and where its row ends
-rest-fits : (c : After-binomial) →
+rest_fits : (c : After-binomial) →
     let points = c.args.points in (c.loop-left.sum - c.binomial.result) * points + points < 2 ^ 33
-rest-fits c = row_fits (rest c).2 (omega arith)
+rest_fits c = row_fits (rest c).2 (omega arith)
 
 pub overflow_mul-own : goal.overflow_mul-own
 overflow_mul-own c =
-    record { fits = omega (arith, own-fits (goal.at.overflow_mul-own c).After-rank-all) }
+    record { fits = omega (arith, own_fits (goal.at.overflow_mul-own c).After-rank-all) }
 
 pub overflow_add-ends : goal.overflow_add-ends
 overflow_add-ends c =
-    record { fits = omega (arith, own-fits (goal.at.overflow_add-ends c).After-rank-all) }
+    record { fits = omega (arith, own_fits (goal.at.overflow_add-ends c).After-rank-all) }
 
 -- before the first turn every row is the list's own
 pub loop-left-init : goal.loop-left-init
@@ -71,11 +71,11 @@ overflow_cast-ends c =
 
 pub overflow_mul-ends : goal.overflow_mul-ends
 overflow_mul-ends c =
-    record { fits = omega (arith, rest-fits (goal.at.overflow_mul-ends c).After-binomial) }
+    record { fits = omega (arith, rest_fits (goal.at.overflow_mul-ends c).After-binomial) }
 
 pub overflow_add-ends-in-loop-left : goal.overflow_add-ends-in-loop-left
 overflow_add-ends-in-loop-left c =
-    record { fits = omega (arith, rest-fits (goal.at.overflow_add-ends-in-loop-left c).After-binomial) }
+    record { fits = omega (arith, rest_fits (goal.at.overflow_add-ends-in-loop-left c).After-binomial) }
 
 pub bounds-ends-t : goal.bounds-ends-t
 bounds-ends-t c =

@@ -1,12 +1,7 @@
 -- Task by task from the highest, the row of the list without it; the sum then has the task one place lower. Assumes nothing.
-use Rattle.model.proofs.Basics.{◌≡◌, sym, ap, ◌∙◌, ℕ, ◌+◌, ◌-◌, ◌*◌, ◌%◌, ◌^◌, ◌≤◌, ◌<◌, arith, rules}
-use Rattle.model.specs.{map_below, without, mask_bits}
-use lib.Count.{count_leading_zeros}
-use Rattle.rank.specs.Ranks.{rank, max_ranked, rank_of}
-use Rattle.rank.proofs.Binomials.{binomial_small}
-use Rattle.rank.proofs.Ends.{leading_less, Highest, highest, without_less, size_mask}
-use Rattle.rank.proofs.Rests.{Lowering, none_lowered, one_lowered, rest_now, lower_fits, rank_small, row_fits, rows_while, rows_none, rows_one}
-use Rattle.rank.proofs.Rests.{rows_all}
+use Rattle.model.proofs.Basics.{◌≡◌, ◌%◌, ◌^◌}
+use Rattle.rank.specs.Ranks.{max_ranked}
+use Rattle.rank.proofs.Rests.{Lowering, rows_while}
 use Rattle.rank.proofs.rows.Given as goal
 
 abbrev pub invariant-loop-left : goal.invariant-loop-left

@@ -1,6 +1,6 @@
 -- Each turn writes one number behind those that are written; where not all are in the buffer, none is. Assumes nothing.
-use Rattle.model.proofs.Basics.{◌-◌, arith, get_or, rules}
-use Rattle.model.proofs.Bytes.Rows.{Written, none_written, one_written, same_room, all_written}
+use Rattle.model.proofs.Basics.{arith}
+use Rattle.model.proofs.Bytes.Rows.{none_written, one_written, same_room, all_written}
 use Rattle.store.proofs.Writing.{row_unwritten}
 use Rattle.store.proofs.write_row.Goals as goal
 

@@ -1,7 +1,6 @@
 -- Each turn writes one number behind those that are written; where not all are in the buffer, none is. Assumes nothing.
-use Rattle.model.proofs.Basics.{◌-◌, arith, get_or, rules}
-use Rattle.model.proofs.Bytes.Rows.{Written, none_written, one_written, same_room, all_written}
-use Rattle.store.proofs.Writing.{row_unwritten}
+use Rattle.model.proofs.Basics.{◌-◌, get_or}
+use Rattle.model.proofs.Bytes.Rows.{Written}
 use Rattle.store.proofs.write_row.Given as goal
 
 abbrev pub invariant-loop-i : goal.invariant-loop-i

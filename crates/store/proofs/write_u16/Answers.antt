@@ -1,5 +1,5 @@
 -- Both bytes are in the buffer, or nothing is stored. Assumes nothing.
-use Rattle.model.proofs.Basics.{arith, length-set, rules}
+use Rattle.model.proofs.Basics.{arith, length-set}
 use Rattle.store.proofs.Writing.{unwritten, write_two}
 use Rattle.store.proofs.write_u16.Goals as goal
 

@@ -1,5 +1,4 @@
 -- A number of eight bytes is a row of four numbers of two, and the row is written or left as a whole. Assumes nothing.
-use Rattle.model.proofs.Basics.{rules}
 use Rattle.store.proofs.Writing.{four_parts}
 use Rattle.store.proofs.write_u64.Goals as goal
 

@@ -1,5 +1,5 @@
 -- Below the width the shifted bit is the member, and from it on no task is in the list. Assumes nothing.
-use Rattle.model.proofs.Basics.{ap, ℕ, arith, eqb, rules}
+use Rattle.model.proofs.Basics.{ap, ℕ, arith, eqb}
 use Rattle.model.specs.{mask_bits}
 use Rattle.tasklist.proofs.Shifts.{bit_shifted, not_listed}
 use Rattle.tasklist.proofs.contains.Goals as goal

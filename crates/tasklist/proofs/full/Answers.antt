@@ -1,5 +1,5 @@
 -- The full list is one less than the number of lists, and empty where there is none. Assumes nothing.
-use Rattle.model.proofs.Basics.{arith, rules}
+use Rattle.model.proofs.Basics.{arith}
 use Rattle.model.proofs.TaskLists.Masks.{full_lists}
 use Rattle.tasklist.proofs.full.Goals as goal
 

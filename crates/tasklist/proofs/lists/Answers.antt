@@ -1,5 +1,5 @@
 -- Below the width the power is one bit, and from it on there is no number. Assumes nothing.
-use Rattle.model.proofs.Basics.{arith, rules}
+use Rattle.model.proofs.Basics.{arith}
 use Rattle.model.specs.{mask_bits}
 use Rattle.model.proofs.TaskLists.Masks.{lists_of_lem, no_lists}
 use Rattle.tasklist.proofs.Shifts.{one_bit}

@@ -1,5 +1,5 @@
 -- Below the width the bit is joined, and from it on no task has a bit. Assumes nothing.
-use Rattle.model.proofs.Basics.{arith, rules}
+use Rattle.model.proofs.Basics.{arith}
 use Rattle.model.specs.{mask_bits}
 use Rattle.tasklist.proofs.Shifts.{joined, not_joined}
 use Rattle.tasklist.proofs.with.Goals as goal

@@ -1,5 +1,5 @@
 -- Below the width the bit is struck off, and from it on no task is in the list. Assumes nothing.
-use Rattle.model.proofs.Basics.{sym, arith, rules}
+use Rattle.model.proofs.Basics.{sym, arith}
 use Rattle.model.specs.{mask_bits}
 use Rattle.model.proofs.TaskLists.Masks.{bit_above, without_none}
 use Rattle.tasklist.proofs.Shifts.{struck}

@@ -1,5 +1,5 @@
 -- The only field of the tasks, whose place no count moves, in two's complement. Assumes nothing.
-use Rattle.model.proofs.Basics.{ap, ◌∙◌, lit<, rules}
+use Rattle.model.proofs.Basics.{ap, ◌∙◌, lit<}
 use Rattle.model.specs.{signed, tasks_body, kind1, field_width, decode_by, layout_of, decode}
 use mir.Syntax.{w16}
 use mir.ValLaws.{to_z-of_z}

@@ -1,5 +1,5 @@
 -- The only field of the last body, at the entry that row and column give. Assumes nothing.
-use Rattle.model.proofs.Basics.{◌+◌, ◌*◌, ◌≤◌, arith, length, rules}
+use Rattle.model.proofs.Basics.{◌+◌, ◌*◌, ◌≤◌, arith, length}
 use Rattle.view.proofs.Within.{distance_within, distance_is}
 use Rattle.view.proofs.distance.Goals.{After-struct_known-2-1}
 use Rattle.view.proofs.distance.Goals as goal

@@ -1,5 +1,5 @@
 -- Both bytes are there, and each is below 256. Assumes nothing.
-use Rattle.model.proofs.Basics.{sym, ◌+◌, arith, rules}
+use Rattle.model.proofs.Basics.{sym, ◌+◌, arith}
 use Rattle.number.proofs.Bytes.{number_two}
 use Rattle.view.proofs.u16_at.Goals as goal
 

@@ -1,5 +1,4 @@
 -- Two halves of two bytes, all within the bytes. Assumes nothing.
-use Rattle.model.proofs.Basics.{rules}
 use Rattle.number.proofs.Bytes.{both_halves}
 use Rattle.view.proofs.u32_at.Goals as goal
 

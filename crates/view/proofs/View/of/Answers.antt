@@ -1,5 +1,4 @@
 -- Each count is what its contents line states, and each body begins behind the one before it. Assumes nothing.
-use Rattle.model.proofs.Basics.{rules}
 use Rattle.model.specs.{kind1, field_width, bytes_before, entry_bytes, line_at, decode_by, layout_of, decode}
 use Rattle.view.specs.Views.{places_of, view_of}
 use Rattle.view.proofs.View.of.Goals as goal
