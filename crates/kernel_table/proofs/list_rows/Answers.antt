@@ -25,7 +25,7 @@ pub list_row-requires : goal.list_row-requires
 list_row-requires c =
     let p = c.requires in
     let h = so_far (goal.at.list_row-requires c).At-loop-k in
-    let more = c.loop-k-test.true in
+    let more : c.loop-k.k < c.lists-lists.result = omega arith in
     let point = p.1.workable.counts.one_point in
     let in_list : c.loop-k.k < 2 ^ p.0.tasks = omega (arith, h.all, more) in
     let w = c.waiting-waiting.ensures in (
@@ -39,7 +39,7 @@ list_row-requires c =
 pub loop-k-preserved : goal.loop-k-preserved
 loop-k-preserved c S a r t b =
     let h = c.loop-k.invariant S a r t b in
-    let more = c.loop-k-test.true in
+    let more : c.loop-k.k < c.lists-lists.result = omega arith in
     let point = a.workable.counts.one_point in
     let in_list : c.loop-k.k < 2 ^ S.tasks = omega (arith, h.all, more) in
     let w = c.waiting-waiting.ensures in
