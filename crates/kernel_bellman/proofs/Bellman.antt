@@ -1,7 +1,7 @@
 -- What is gathered from cells in which the rests of a list stand gives the cost to go with that list open: Bellman's equation, as the code computes it. Assumes nothing.
 use Rattle.model.proofs.Basics.{◌≡◌, refl, sym, ap, ◌∙◌, true, List, map, ℕ, zero, suc, ◌+◌, ◌-◌, ◌*◌, ◌^◌, ◌≤◌, ◌<◌, arith, length, get_or, ltb, ltb-true}
 use Rattle.model.proofs.Basics.{length-map, pow_pos, ℤ, mul-le-mul_right, List·getD-append}
-use Rattle.model.specs.{map_below, overwrite, without, size, member, essential, pairs_allow, can_come_first, first_doors, load, charges, step_cost, cost_to_go, least}
+use Rattle.model.specs.{map_below, overwrite, without, size, member, essential, pairs_allow, can_come_first, first_doors, charges, step_cost, cost_to_go, least}
 use Rattle.model.specs.Sheet.{Sheet}
 use Rattle.model.proofs.Tools.Tests.{and_left, and_right}
 use Rattle.model.proofs.Tools.Folds.{map_below_cong, length_map_below, map_below_at}

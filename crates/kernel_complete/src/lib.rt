@@ -1,5 +1,7 @@
 // Completes a plan from a point and an open list, door after door: the first by number, among the doors whose task can come first, whose step plus the cell of the rest
 // equals the cell here.
+#![tactic(auto)]
+
 ghost use Rattle.std.specs.Prelude.{◌≡◌, ◌≢◌, ◌<◌};
 ghost use Rattle.model.specs.Folds.{map_below, index_of};
 ghost use Rattle.model.specs.Sheet.{Sheet};

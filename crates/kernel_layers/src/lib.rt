@@ -1,4 +1,6 @@
 // The two layers of costs to go: a row of P cells for each list of one size, at its rank, the even sizes in one and the odd in the other, size after size.
+#![tactic(auto)]
+
 ghost use Rattle.std.specs.Prelude.{◌≡◌, ◌-◌, ◌%◌, ◌≤◌};
 ghost use Rattle.model.specs.Sheet.{Sheet};
 ghost use Rattle.kernel_sheet.specs.Prepared.{ReceiversOf, Prepared};

@@ -1,4 +1,6 @@
 // The table of costs to go: a row of P cells for each list that the pairs allow, list after list in the order of their numbers.
+#![tactic(auto)]
+
 ghost use Rattle.std.specs.Prelude.{◌≡◌, ◌+◌, ◌*◌, ◌≤◌, length};
 ghost use Rattle.model.specs.Folds.{map_below};
 ghost use Rattle.model.specs.Bytes.{overwrite_at};

@@ -1,4 +1,5 @@
 -- The loop's sum is the end load and the changes of the tasks passed. Each of them has 16 bits, so that 32 hold the sum of all; and it is not below zero where
+-- the load is not, so its cast keeps it. Assumes nothing.
 use Rattle.model.proofs.Basics.{◌≡◌, ℕ, suc, ◌^◌, ◌<◌, arith, pos, ◌+ℤ◌, get_or}
 use Rattle.model.specs.{mask_bits, max_tasks}
 use Rattle.model.proofs.TaskLists.Lowest.{Lowest}
