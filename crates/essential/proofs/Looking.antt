@@ -12,9 +12,9 @@ use Rattle.essential.specs.Method.{step, Steps, closed_by}
 use Rattle.essential.proofs.Stepping.{next_load, load_bound}
 use Rattle.essential.proofs.Senders.{closed_is}
 
-pub record Looking (S : Sheet) (lists sum k : ℕ) : Type 0 where
+pub record Looking (S : Sheet) (lists : ℕ) (sum : ℤ) (k : ℕ) : Type 0 where
   pub above : 0 < k
-  pub is : to_z w32 sum ≡ load S (k - 1)
+  pub is : sum ≡ load S (k - 1)
   pub none : Searched lists (light_list S) k
 
 -- ---- the empty list: its load is the end load, and it is not essential
@@ -23,7 +23,7 @@ empty_below : (S : Sheet) (n : ℕ) → load_below S 0 n ≡ pos S.end_load
 empty_below S zero = refl
 empty_below S (suc n) = rw bit_none (+ℤ_idr (load_below S 0 n) ∙ empty_below S n)
 
-pub empty_first : (S : Sheet) {lists e : ℕ} → e ≡ S.end_load → e < 2 ^ 31 → 0 < lists → Looking S lists e 1
+pub empty_first : (S : Sheet) {lists e : ℕ} → e ≡ S.end_load → e < 2 ^ 31 → 0 < lists → Looking S lists (to_z w32 e) 1
 unfolding load light_list essential
 empty_first S {lists} {e} q f l = record {
   above = omega arith;
@@ -33,7 +33,7 @@ empty_first S {lists} {e} q f l = record {
 
 -- ---- the next list
 
-module _ {S : Sheet} {steps : List ℤ} {lists sum k : ℕ} (h : Looking S lists sum k) (p : Steps S steps) (few : S.tasks ≤ max_tasks) (end : S.end_load < 2 ^ 16)
+module _ {S : Sheet} {steps : List ℤ} {lists : ℕ} {sum : ℤ} {k : ℕ} (h : Looking S lists sum k) (p : Steps S steps) (few : S.tasks ≤ max_tasks) (end : S.end_load < 2 ^ 16)
     (n : lists ≡ 2 ^ S.tasks) (l : k < lists) (fit : k < 2 ^ mask_bits) where
   -- its lowest task
   abbrev low : ℕ
@@ -50,7 +50,7 @@ module _ {S : Sheet} {steps : List ℤ} {lists sum k : ℕ} (h : Looking S lists
 
   -- the sum with the step is its load
   abbrev total : ℤ
-  total = to_z w32 sum +ℤ to_z w32 (of_z w32 (get_or steps low (pos 0)))
+  total = sum +ℤ to_z w32 (of_z w32 (get_or steps low (pos 0)))
 
   from_before : (k : ℕ) → 0 < k → Lowest k low → load S (k - 1) +ℤ step S low ≡ load S k
   from_before zero a s = absurd (omega arith)
@@ -67,7 +67,7 @@ module _ {S : Sheet} {steps : List ℤ} {lists sum k : ℕ} (h : Looking S lists
   held : to_z w32 (of_z w32 total) ≡ load S k
   held = to_z-of_z w32 total total_fits ∙ is_load
 
-  passed_by : light_list S k ≡ false → Looking S lists (of_z w32 total) (k + 1)
+  passed_by : light_list S k ≡ false → Looking S lists (to_z w32 (of_z w32 total)) (k + 1)
   passed_by e = record {
     above = omega arith;
     is = let q : k + 1 - 1 ≡ k = omega arith in rw q held;
@@ -75,7 +75,7 @@ module _ {S : Sheet} {steps : List ℤ} {lists sum k : ℕ} (h : Looking S lists
   }
 
   -- its load is not below zero
-  pub heavy : lt_z (to_z w32 (of_z w32 total)) (pos 0) ≡ false → Looking S lists (of_z w32 total) (k + 1)
+  pub heavy : lt_z (to_z w32 (of_z w32 total)) (pos 0) ≡ false → Looking S lists (to_z w32 (of_z w32 total)) (k + 1)
   unfolding light_list
   heavy e = passed_by (ap (λ b. essential S k && b) (ap (λ z. lt_z z (pos 0)) (sym held) ∙ e) ∙ and-false (essential S k))
 
@@ -92,9 +92,9 @@ module _ {S : Sheet} {steps : List ℤ} {lists sum k : ℕ} (h : Looking S lists
     unfolding too_light
     light t = found (light_list S) l n is_light t
 
-    pub not_essential : c ≡ false → Looking S lists (of_z w32 total) (k + 1)
+    pub not_essential : c ≡ false → Looking S lists (to_z w32 (of_z w32 total)) (k + 1)
     not_essential t = passed_by (sym is_light ∙ t)
 
-pub all_looked_at : {S : Sheet} {lists sum k : ℕ} → Looking S lists sum k → lists ≡ 2 ^ S.tasks → lists ≤ k → false ≡ too_light S
+pub all_looked_at : {S : Sheet} {lists : ℕ} {sum : ℤ} {k : ℕ} → Looking S lists sum k → lists ≡ 2 ^ S.tasks → lists ≤ k → false ≡ too_light S
 unfolding too_light
 all_looked_at h n l = none_found h.none l n

@@ -1,4 +1,6 @@
 // Fault 16: whether some essential list has a load below zero.
+#![tactic(auto)]
+
 ghost use Rattle.std.specs.Prelude.{◌≡◌, ◌≤◌, ◌<◌, length};
 ghost use Rattle.model.specs.SheetLayout.{max_tasks, decode};
 ghost use Rattle.model.specs.Method.{mask_bits};

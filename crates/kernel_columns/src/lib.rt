@@ -1,4 +1,6 @@
 // The distances of a sheet by columns: all those to one point together, as a row of the kernel asks for them. With `kernel_prepare` the only place of the kernel that knows bytes.
+#![tactic(auto)]
+
 ghost use Rattle.std.specs.Prelude.{◌≡◌, ◌*◌, ◌≤◌, length};
 ghost use Rattle.model.specs.Bytes.{overwrite};
 ghost use Rattle.model.specs.SheetLayout.{decode};

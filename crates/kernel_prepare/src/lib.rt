@@ -1,4 +1,6 @@
 // What the kernel works with, prepared from a sheet: the only place of it that knows bytes, a view and a kind.
+#![tactic(auto)]
+
 ghost use Rattle.std.specs.Prelude.{◌≡◌, pos};
 ghost use Rattle.model.specs.Folds.{map_below};
 ghost use Rattle.model.specs.SheetLayout.{max_tasks, max_starts, max_points, decode};

@@ -1,4 +1,6 @@
 // The choice of the start, by the row of the full list: what the whole round costs from each point.
+#![tactic(auto)]
+
 ghost use Rattle.std.specs.Prelude.{◌≡◌};
 ghost use Rattle.std.proofs.Math.Option.{some};
 ghost use Rattle.model.specs.Sheet.{Sheet};

@@ -1,4 +1,6 @@
 // Reading a task sheet, which answers with the view of a sheet that reads or with a fault.
+#![tactic(auto)]
+
 ghost use Rattle.std.specs.Prelude.{◌≡◌};
 ghost use Rattle.model.specs.Faults.{read_sheet};
 ghost use Rattle.view.specs.Views.{view_of};

@@ -41,27 +41,27 @@ mag_sub y z = omega (arith, mag_add y (neg_ℤ z), mag_neg z)
 
 -- ---- the sum in the code
 
--- the bits `sum` hold the total of the numbers below n: at most `a` at first, and one number of v bits more with each n
-pub record SumBelow (v w : Width) (total : ℕ → ℤ) (a n sum : ℕ) : Type 0 where
-  pub is : to_z w sum ≡ total n
+-- `sum`, of w bits, is the total of the numbers below n: at most `a` at first, and one number of v bits more with each n
+pub record SumBelow (v w : Width) (total : ℕ → ℤ) (a n : ℕ) (sum : ℤ) : Type 0 where
+  pub is : sum ≡ total n
   pub bound : mag (total n) ≤ a + n * 2 ^ hbits v
 
-pub no_sum : {v w : Width} {total : ℕ → ℤ} {a : ℕ} (e : ℕ) → total 0 ≡ pos e → e ≤ a → e < 2 ^ hbits w → SumBelow v w total a 0 e
+pub no_sum : {v w : Width} {total : ℕ → ℤ} {a : ℕ} (e : ℕ) → total 0 ≡ pos e → e ≤ a → e < 2 ^ hbits w → SumBelow v w total a 0 (to_z w e)
 no_sum {w = w} e h l f = record { is = to_z_pos w e f ∙ sym h; bound = rw h (omega arith) }
 
-module _ {v w : Width} {total : ℕ → ℤ} {a n sum : ℕ} (h : SumBelow v w total a n sum) where
+module _ {v w : Width} {total : ℕ → ℤ} {a n : ℕ} {sum : ℤ} (h : SumBelow v w total a n sum) where
   -- number n is summed: x, of v bits
   module _ (x : ℤ) (f : mag x < 2 ^ hbits v) (e : total (suc n) ≡ total n +ℤ x) (room : a + suc n * 2 ^ hbits v < 2 ^ hbits w) where
     next_bound : mag (total (suc n)) ≤ a + suc n * 2 ^ hbits v
     next_bound = rw e (omega (arith, mag_add (total n) x, h.bound, f))
 
-    next : to_z w sum +ℤ to_z w (of_z w (to_z v (of_z v x))) ≡ total (suc n)
+    next : sum +ℤ to_z w (of_z w (to_z v (of_z v x))) ≡ total (suc n)
     next = ap₂ ◌+ℤ◌ h.is (widened v x f w (omega (arith, f, room))) ∙ sym e
 
-    pub next_fits : SFits w (to_z w sum +ℤ to_z w (of_z w (to_z v (of_z v x))))
+    pub next_fits : SFits w (sum +ℤ to_z w (of_z w (to_z v (of_z v x))))
     next_fits = rw next (record { sfits = lt_of_le_of_lt next_bound room })
 
-    pub next_sum : SumBelow v w total a (n + 1) (of_z w (to_z w sum +ℤ to_z w (of_z w (to_z v (of_z v x)))))
+    pub next_sum : SumBelow v w total a (n + 1) (to_z w (of_z w (sum +ℤ to_z w (of_z w (to_z v (of_z v x))))))
     next_sum = rw add-one (record { is = to_z-of_z w _ next_fits ∙ next; bound = next_bound })
 
   -- number n is passed over
