@@ -6,7 +6,7 @@ use vanplan::{
     MAX_CELLS, MAX_LAYER_CELLS, MAX_PLAN_BYTES, MAX_PLAN_DOORS, MAX_SHEET_BYTES, VERSION,
 };
 
-const EXPORTS: &str = include_str!("../../crates/vanplan/src/lib.rt");
+const EXPORTS: &str = include_str!("../../crates/vanplan_c/src/lib.rt");
 const HEADER: &str = include_str!("../../include/vanplan.h");
 const PACKAGE: &str = include_str!("../src/ffi.rs");
 const TESTS: &str = include_str!("common/interface.rs");
