@@ -1,7 +1,7 @@
 /* vanplan: route planning and plan validation for delivery vans, from proved code. For C99 and C++.
  *
- * Link with libvanplan.a, which `rt staticlib vanplan` writes to target/staticlib/ (x86-64 Linux). It allocates nothing,
- * and needs memcpy and memset of the C library and nothing else.
+ * Link with libvanplan.a, which `tools/archive` writes to target/staticlib/ (x86-64 Linux). It allocates nothing, and
+ * needs memcpy and memset of the C library and nothing else.
  *
  * Every call returns 0, or the number of a refusal, and where it refuses it has written nothing through any pointer.
  * Any bytes and any numbers may be passed: no call reads or writes outside of what it is lent, and every call ends. A

@@ -1,4 +1,4 @@
-//! Links the static library of the proved code, which `rt staticlib vanplan` makes in the repository's root.
+//! Links the static library of the proved code, which `tools/archive` makes in the repository's root.
 
 use std::path::{Path, PathBuf};
 use std::{env, process};
@@ -23,7 +23,7 @@ fn main() {
     if !archive.is_file() {
         eprintln!("{} is not there.", archive.display());
         eprintln!(
-            "Run `rt staticlib vanplan` in {} first, or ./test, which does.",
+            "Run `tools/archive` in {} first, or ./test, which does.",
             root.display()
         );
         process::exit(1);

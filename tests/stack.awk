@@ -1,6 +1,7 @@
 # The stack that each call of the C interface takes, from `objdump -dr --no-show-raw-insn` of the static library: for each function what it
 # pushes and takes off the stack pointer, and for each call the deepest chain of functions, with a return address for each. A function that
-# calls none may use 128 bytes below the stack pointer besides. What the C library's memset and memcpy take is not counted.
+# ends by a jump to another one leaves that one its place. A function that calls none may use 128 bytes below the stack pointer besides. What
+# the C library's memset and memcpy take is not counted.
 # Prints a line for each call, `NAME BYTES`. A call through a pointer, a function that is not there or a chain that comes back to itself is
 # told instead, and the status is then 1.
 
@@ -46,20 +47,26 @@ function fail(what) {
     name = $0
     sub(/^[0-9a-f]+ </, "", name)
     sub(/>:$/, "", name)
-    own[name] = depth = body = probed = calls[name] = 0
+    own[name] = depth = body = probed = calls[name] = jumped = 0
     next
 }
 
-# Where a call goes stands on the line behind it.
-/R_X86_64_PLT32/ {
+# Where a call goes, or a jump out of the function, stands on the line behind it.
+/R_X86_64_(PLT32|PC32)/ {
     target = $NF
     sub(/-0x4$/, "", target)
     sub(/^\.text\./, "", target)
-    if (pending)
+    if (jumped) {
+        calls[name]++
+        at[name, calls[name]] = depth - 8
+        depth = body = before
+    }
+    if (pending || jumped)
         to[name, calls[name]] = target == "memset" || target == "memcpy" ? "" : target
-    pending = 0
+    pending = jumped = 0
     next
 }
+{ jumped = 0 }
 
 # A frame larger than a page is taken page by page, down to where %r11 says.
 /\tsub +\$0x[0-9a-f]+,%r11$/ && !calls[name] && depth == body {
@@ -76,6 +83,8 @@ function fail(what) {
 /\tpop +/ { depth -= 8; next }
 /\tret *$/ { depth = body; next }
 
+/\tj[a-z]+ +[0-9a-f]+/ { jumped = 1; before = body }
+/\tjmp +\*/ { fail(name " jumps through a pointer") }
 /\tcall +\*/ { fail(name " calls through a pointer") }
 /\tcall +[0-9a-f]+/ { calls[name]++; at[name, calls[name]] = depth; to[name, calls[name]] = "?"; pending = 1 }
 

@@ -1,8 +1,8 @@
 # For ../plan and ../vanplan: proves and builds what they run, once, and shows how far it is.
 #
-# Who sources this has set `name`, its own; `what`, what it needs in words; `product`, the file that is built; `rt_call`, the words of
-# `rt` that prove it; `needs`, the commands that this takes; and has a function `finish`, which makes the product of what `rt` left, and one
-# `stale`, which makes `rt` do its last step again. All run in the repository's folder.
+# Who sources this has set `name`, its own; `what`, what it needs in words; `product`, the file that is built; `rt_call`, the command that
+# proves it; `needs`, the commands that this takes; and has a function `finish`, which makes the product of what that command left. All run
+# in the repository's folder.
 
 log=target/$name.log
 # What the product was built from, and the product itself, as checksums. It is written once the product is proved, linked
@@ -22,9 +22,9 @@ sum() {
     sha256sum | cut -d ' ' -f 1
 }
 
-# All that the proofs and the product are made from; a must-fail edit is no part of it.
+# All that the proofs and the product are made from; a must-fail edit is no part of it, nor what `rt` keeps in a crate's out/.
 sources_sum() {
-    find crates.txt crates tools -name must-fail -prune -o -type f -exec sha256sum {} + | LC_ALL=C sort | sum
+    find crates.txt crates tools '(' -name must-fail -o -name out ')' -prune -o -type f -exec sha256sum {} + | LC_ALL=C sort | sum
 }
 
 product_sum() {
@@ -38,13 +38,15 @@ is_built() {
 
 # Keeps what `rt` says in the log, and shows each crate that it proves, and every ten seconds that it is at work.
 show_progress() {
-    local line='' part
+    local line='' part crate=''
     while true; do
         if IFS= read -r -t 10 part; then
             line+=$part
             printf '%s\n' "$line"
-            if [[ $line =~ ^rt:\ ([A-Za-z0-9_]+)\ proved\ \([0-9]+\ s\)$ ]]; then
-                say "$SECONDS s: ${BASH_REMATCH[1]} proved"
+            if [[ $line =~ ^rt:\ chose\ --jobs\ [0-9]+\ for\ ([A-Za-z0-9_]+)$ ]]; then
+                crate=${BASH_REMATCH[1]}
+            elif [[ $line == 'logic=proved '* ]]; then
+                say "$SECONDS s: $crate proved"
             fi
             line=''
         elif [ $? -gt 128 ]; then
@@ -82,10 +84,6 @@ build() {
         fi
         SECONDS=0
         from=$(sources_sum)
-        # rt goes by the sources alone: where the product itself is gone or another, it is to be linked again.
-        if [ ! -x "$product" ] || { [ -f "$mark" ] && [ "$(cut -d ' ' -f 1 "$mark")" = "$from" ]; }; then
-            stale
-        fi
         rm -f "$mark"
         "${rt_call[@]}" </dev/null 2>&1 | show_progress
         status=${PIPESTATUS[0]}

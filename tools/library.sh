@@ -3,13 +3,8 @@
 name=vanplan
 what=library
 product=target/lib/libvanplan.so
-rt_call=(rt staticlib vanplan)
+rt_call=(tools/archive)
 needs=(rt cc)
-
-# `rt staticlib` writes the archive anew each time.
-stale() {
-    true
-}
 
 # Links the archive as a shared library, which is there whole or not at all.
 finish() {

@@ -6,7 +6,8 @@ use vanplan::{
     MAX_CELLS, MAX_LAYER_CELLS, MAX_PLAN_BYTES, MAX_PLAN_DOORS, MAX_SHEET_BYTES, VERSION,
 };
 
-const EXPORTS: &str = include_str!("../../crates/vanplan/src/lib.rt");
+const EXPORTS: &str = include_str!("../../crates/vanplan_c/src/lib.rt");
+const CALLS: &str = include_str!("../../crates/vanplan/src/lib.rt");
 const HEADER: &str = include_str!("../../include/vanplan.h");
 const PACKAGE: &str = include_str!("../src/ffi.rs");
 const TESTS: &str = include_str!("common/interface.rs");
@@ -134,12 +135,28 @@ fn agree(declared: &Calls, exported: &Calls) -> bool {
 #[test]
 fn the_exports_are_found() {
     let exports = exported(EXPORTS);
-    let count = EXPORTS.matches("#[no_mangle]").count();
+    let count = EXPORTS.matches("#[unsafe(no_mangle)]").count();
     assert_eq!(exports.len(), count, "{:?}", exports.keys());
     let lists = |call: &str| exports[call].iter().filter(|a| a.1.is_none()).count();
     assert_eq!(lists("vanplan_plan"), 3);
     assert_eq!(lists("vanplan_price_row"), 3);
     assert_eq!(exports["vanplan_read"].len(), 5, "with the answer");
+}
+
+/// Name, arguments and promises of each function that begins so, however its text is laid out.
+fn promised(source: &str, before: &str) -> Vec<String> {
+    let calls = all_between(source, before, "\n{").into_iter();
+    let words = calls.map(|call| call.split_whitespace().collect::<Vec<_>>().join(" "));
+    words
+        .map(|call| call.replace("( ", "(").replace(", )", ")"))
+        .collect()
+}
+
+#[test]
+fn the_exports_promise_what_the_calls_do() {
+    let exports = promised(EXPORTS, "pub extern \"C\" fn ");
+    assert_eq!(exports, promised(CALLS, "pub fn "));
+    assert_eq!(exports.len(), 7);
 }
 
 #[test]

@@ -1,7 +1,10 @@
 // The print program: reads a sheet from standard input, plans it with 4,096 cells, and prints the plan or the refusal.
-ghost use Rattle.std.specs.Prelude.{◌≤◌, length};
+#![tactic(auto)]
 
-use libc::{STDERR_FILENO, STDIN_FILENO, STDOUT_FILENO};
+ghost use Rattle.std.specs.Prelude.{◌≡◌, ◌≤◌, ◌<◌, length, take, true};
+ghost use Rattle.std.specs.Io.KnownBytes.{Consumes, IsAtEnd};
+
+use std::io::{Read, Write};
 
 // One byte more than the longest sheet has: a longer input is cut there, and refused all the same.
 const INPUT_BYTES: usize = 9639;
@@ -16,20 +19,28 @@ struct Input {
 }
 
 // Reads until the buffer is full, the input ends or a read fails.
-fn read_input(buf: &mut [u8]) -> Input
-    ensures { result.bytes ≤ length buf.new }
+fn read_input<R: Read>(input: &mut R, buf: &mut [u8]) -> Input
+    ensures within { result.bytes ≤ length buf.new }
+    ensures bytes { Consumes (R.remaining input.old) (R.remaining input.new) (take result.bytes buf.new) }
+    ensures ended { result.ok ≡ true → result.bytes < length buf.new → IsAtEnd (R.remaining input.new) }
 {
     let mut done: usize = 0;
     while done < buf.len() {
-        let got = libc::read(STDIN_FILENO, &mut buf[done..]);
-        let more = io::count(got, &buf[done..]);
-        if more == 0 {
-            return Input {
-                bytes: done,
-                ok: 0 <= got,
-            };
+        match input.read(&mut buf[done..]) {
+            Ok(0) => {
+                return Input {
+                    bytes: done,
+                    ok: true,
+                };
+            }
+            Ok(more) => done = done + more,
+            Err(_) => {
+                return Input {
+                    bytes: done,
+                    ok: false,
+                };
+            }
         }
-        done = done + more;
     }
     Input {
         bytes: done,
@@ -37,24 +48,22 @@ fn read_input(buf: &mut [u8]) -> Input
     }
 }
 
-fn main() {
+fn main(rt: HostRuntime) {
     let mut sheet = [0u8; INPUT_BYTES];
-    let input = read_input(&mut sheet);
+    let input = read_input(&mut rt.stdin(), &mut sheet);
     if !input.ok {
-        io::write_all(
-            STDERR_FILENO,
-            b"print_plan: standard input cannot be read\n",
-        );
+        let _ = rt
+            .stderr()
+            .write_all(b"print_plan: standard input cannot be read\n");
         return;
     }
     let n = input.bytes;
     let mut cells = [0u64; CELLS];
     let mut out = [0u8; text::TEXT_BYTES];
     let end = text::print(&sheet[..n], &mut cells, &mut out);
-    if !io::write_all(STDOUT_FILENO, &out[..end]) {
-        io::write_all(
-            STDERR_FILENO,
-            b"print_plan: standard output cannot be written\n",
-        );
+    if rt.stdout().write_all(&out[..end]).is_err() {
+        let _ = rt
+            .stderr()
+            .write_all(b"print_plan: standard output cannot be written\n");
     }
 }

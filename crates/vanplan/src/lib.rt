@@ -1,4 +1,5 @@
-// The C interface, which include/vanplan.h documents. Each call returns 0, or the refusal's number with nothing written.
+// The calls of the C interface, which vanplan_c exports and include/vanplan.h documents. Each returns 0, or the refusal's number with
+// nothing written.
 ghost use Rattle.std.specs.Prelude.{◌≡◌, length};
 ghost use Rattle.model.specs.Answer.{status, placed, placed_number};
 ghost use Rattle.model.specs.Faults.{read_sheet, tasks_left, points_left};
@@ -17,8 +18,7 @@ use validate::Validation;
 const OK: u32 = 0;
 
 // Reads a sheet: its numbers of tasks and points.
-#[unsafe(no_mangle)]
-pub extern "C" fn vanplan_read(sheet: &[u8], tasks: &mut u64, points: &mut u64) -> u32
+pub fn vanplan_read(sheet: &[u8], tasks: &mut u64, points: &mut u64) -> u32
     ensures returned { result ≡ status (read_sheet sheet.now) }
     ensures tasks { tasks.new ≡ tasks_left sheet.now tasks.old }
     ensures points { points.new ≡ points_left sheet.now points.old }
@@ -35,13 +35,7 @@ pub extern "C" fn vanplan_read(sheet: &[u8], tasks: &mut u64, points: &mut u64) 
 }
 
 // Plans a sheet: the costs to go in the cells, the cheapest plan at the front of the buffer, and its cost.
-#[unsafe(no_mangle)]
-pub extern "C" fn vanplan_plan(
-    sheet: &[u8],
-    cells: &mut [u64],
-    buf: &mut [u8],
-    cost: &mut u64,
-) -> u32
+pub fn vanplan_plan(sheet: &[u8], cells: &mut [u64], buf: &mut [u8], cost: &mut u64) -> u32
     ensures returned { result ≡ status (plan sheet.now cells.old buf.old).answer }
     ensures cells { cells.new ≡ (plan sheet.now cells.old buf.old).cells }
     ensures bytes { buf.new ≡ (plan sheet.now cells.old buf.old).bytes }
@@ -58,8 +52,7 @@ pub extern "C" fn vanplan_plan(
 }
 
 // Writes a plan of n doors, the first n of those lent, to the front of the buffer.
-#[unsafe(no_mangle)]
-pub extern "C" fn vanplan_write_plan(
+pub fn vanplan_write_plan(
     n: usize,
     start: u16,
     doors: &[u16],
@@ -82,8 +75,7 @@ pub extern "C" fn vanplan_write_plan(
 }
 
 // Reads a plan of n doors: its start, its doors and its cost. Doors lent from n on are set to 0.
-#[unsafe(no_mangle)]
-pub extern "C" fn vanplan_read_plan(
+pub fn vanplan_read_plan(
     n: usize,
     bytes: &[u8],
     start: &mut u16,
@@ -103,8 +95,7 @@ pub extern "C" fn vanplan_read_plan(
 }
 
 // Validates a plan for a sheet: its cost.
-#[unsafe(no_mangle)]
-pub extern "C" fn vanplan_validate(sheet: &[u8], plan: &[u8], cost: &mut u64) -> u32
+pub fn vanplan_validate(sheet: &[u8], plan: &[u8], cost: &mut u64) -> u32
     ensures returned { result ≡ status (validate sheet.now plan.now) }
     ensures cost { cost.new ≡ placed_number (validate sheet.now plan.now) cost.old }
 {
@@ -119,8 +110,7 @@ pub extern "C" fn vanplan_validate(sheet: &[u8], plan: &[u8], cost: &mut u64) ->
 }
 
 // Prices a sheet in two layers of cells: the least cost and its first start.
-#[unsafe(no_mangle)]
-pub extern "C" fn vanplan_price(
+pub fn vanplan_price(
     sheet: &[u8],
     even: &mut [u64],
     odd: &mut [u64],
@@ -144,8 +134,7 @@ pub extern "C" fn vanplan_price(
 }
 
 // Which layer begins with the row of the full list, 0 for the even one and 1 for the odd one, and of how many cells that row is.
-#[unsafe(no_mangle)]
-pub extern "C" fn vanplan_price_row<'a>(
+pub fn vanplan_price_row<'a>(
     sheet: &[u8],
     even: &'a [u64],
     odd: &'a [u64],

@@ -10,7 +10,7 @@ use std::io::{ErrorKind, Write};
 use std::path::Path;
 use std::process::{Child, ChildStdin, Command, Output, Stdio};
 
-/// The program as `rt check print_plan` builds it.
+/// The program as `./plan` and `./test` leave it.
 pub const PROGRAM: &str = concat!(env!("CARGO_MANIFEST_DIR"), "/../target/bin/print_plan");
 
 /// Starts the program with this standard input.
@@ -22,7 +22,7 @@ pub fn start(input: impl Into<Stdio>) -> Child {
 pub fn start_as(command: &mut Command, input: impl Into<Stdio>) -> Child {
     assert!(
         Path::new(PROGRAM).is_file(),
-        "{PROGRAM} is not there. Run `rt check print_plan` first, or ./test, which builds it"
+        "{PROGRAM} is not there. Run ./plan first, or ./test, which build it"
     );
     let command = command.stdin(input).stdout(Stdio::piped());
     let started = command.stderr(Stdio::piped()).spawn();
