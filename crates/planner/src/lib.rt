@@ -1,4 +1,6 @@
 // Planning: the cheapest plan of a sheet, written as bytes, with the table of costs to go left in the cells.
+#![tactic(auto)]
+
 ghost use Rattle.std.specs.Prelude.{◌≡◌, ◌<◌};
 ghost use Rattle.model.specs.Method.{mask_bits};
 ghost use Rattle.model.specs.Answer.{status};

@@ -1,4 +1,6 @@
 // Pricing: the least cost of a round and its first start, without the plan, in two lent layers of cells.
+#![tactic(auto)]
+
 ghost use Rattle.std.specs.Prelude.{◌≡◌, cond, ◌%◌, ◌≤◌, eqb, length, take};
 ghost use Rattle.std.proofs.Math.Option.{some};
 ghost use Rattle.model.specs.Answer.{status};

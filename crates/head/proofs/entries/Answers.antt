@@ -1,5 +1,4 @@
 -- The third number of contents line i, as the definition places it. Assumes nothing.
-use Rattle.model.proofs.Basics.{rules}
 use Rattle.model.specs.{line_at, entries}
 use Rattle.head.proofs.entries.Goals as goal
 

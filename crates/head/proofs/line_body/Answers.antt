@@ -1,5 +1,5 @@
 -- The first number of contents line i, with nothing before it. Assumes nothing.
-use Rattle.model.proofs.Basics.{add-zero, rules}
+use Rattle.model.proofs.Basics.{add-zero}
 use Rattle.model.specs.{line_at, line_body}
 use Rattle.head.proofs.line_body.Goals as goal
 

@@ -1,5 +1,4 @@
 -- The second number of contents line i, as the definition places it. Assumes nothing.
-use Rattle.model.proofs.Basics.{rules}
 use Rattle.model.specs.{line_at, line_offset}
 use Rattle.head.proofs.line_offset.Goals as goal
 
