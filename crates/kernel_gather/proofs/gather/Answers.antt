@@ -84,7 +84,7 @@ bounds-back-d c =
 
 pub overflow_cast-at : goal.overflow_cast-at
 overflow_cast-at c =
-    omega (arith, there (goal.at.overflow_cast-at c).In-loop-left, c.shared_slice_known-1.given (thisSlot (goal.at.overflow_cast-at c).In-loop-left))
+    omega (arith, there (goal.at.overflow_cast-at c).In-loop-left, c.type_inv.ends (thisSlot (goal.at.overflow_cast-at c).In-loop-left))
 
 pub overflow_sub-at : goal.overflow_sub-at
 overflow_sub-at c =

@@ -13,7 +13,7 @@ overflow_cast-k c =
 
 pub charge_doors-requires : goal.charge_doors-requires
 charge_doors-requires c =
-    chargeable c.requires.1 c.sums-1.given.0.1
+    chargeable c.requires.1 (omega arith)
 
 pub returns : goal.returns
 returns c S h =
