@@ -1,8 +1,7 @@
 -- After i turns the plan is the empty one with the first i doors added. Assumes nothing.
-use Rattle.model.proofs.Basics.{◌≡◌, sym, ap, ap₂, ◌∙◌, ◌-◌, ◌≤◌, arith, rules}
-use Rattle.model.specs.{map_below, door_in, cost_in, no_doors, with_door, with_doors}
+use Rattle.model.proofs.Basics.{sym, ap, ap₂, ◌∙◌, arith}
+use Rattle.model.specs.{map_below, no_doors, with_door}
 use Rattle.model.proofs.Bytes.InHand.{with_next, all_added}
-use Rattle.hand.specs.Hands.{hand_of}
 use Rattle.hand.proofs.in_hand.Goals as goal
 
 pub loop-i-init : goal.loop-i-init

@@ -1,7 +1,6 @@
 -- After i turns the plan is the empty one with the first i doors added. Assumes nothing.
-use Rattle.model.proofs.Basics.{◌≡◌, sym, ap, ap₂, ◌∙◌, ◌-◌, ◌≤◌, arith, rules}
-use Rattle.model.specs.{map_below, door_in, cost_in, no_doors, with_door, with_doors}
-use Rattle.model.proofs.Bytes.InHand.{with_next, all_added}
+use Rattle.model.proofs.Basics.{◌≡◌, ◌-◌, ◌≤◌}
+use Rattle.model.specs.{map_below, door_in, cost_in, no_doors, with_doors}
 use Rattle.hand.specs.Hands.{hand_of}
 use Rattle.hand.proofs.in_hand.Given as goal
 

@@ -1,5 +1,5 @@
 -- A refusal touches nothing that was lent; otherwise each part is read to its place. Assumes nothing.
-use Rattle.model.proofs.Basics.{◌≡◌, refl, sym, ◌∙◌, false, arith, length, rules}
+use Rattle.model.proofs.Basics.{◌≡◌, refl, sym, ◌∙◌, false, arith, length}
 use Rattle.model.specs.{wrong_tasks, read_tests, read_plan}
 use Rattle.model.proofs.Bytes.PlanBytes.{fitting}
 use Rattle.plan.proofs.read.Goals.{Else-wrong_tasks}

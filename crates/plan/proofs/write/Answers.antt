@@ -1,5 +1,5 @@
 -- A refusal comes before any write; where n and the room are right, the four parts stand one behind the other. Assumes nothing.
-use Rattle.model.proofs.Basics.{◌≡◌, sym, ◌∙◌, false, arith, length, length-take-le, rules}
+use Rattle.model.proofs.Basics.{◌≡◌, sym, ◌∙◌, false, arith, length, length-take-le}
 use Rattle.model.specs.{line_at, plan_start_at, plan_doors_at, plan_length, wrong_tasks}
 use Rattle.model.proofs.Bytes.PlanBytes.{fitting}
 use Rattle.plan.proofs.Parts.{wrong_number, no_room, plan_written}

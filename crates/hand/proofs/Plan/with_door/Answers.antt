@@ -1,5 +1,5 @@
 -- The code's test of the count is the definition's: a full plan stays, and any other gets the door at the place that its count names. Assumes nothing.
-use Rattle.model.proofs.Basics.{add-one, arith, lt-ltb, le-ltb, rules}
+use Rattle.model.proofs.Basics.{add-one, arith, lt-ltb, le-ltb}
 use Rattle.model.specs.{max_plan_doors, with_door}
 use Rattle.hand.proofs.Plan.with_door.Goals as goal
 
