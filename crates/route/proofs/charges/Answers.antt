@@ -16,7 +16,7 @@ loop-i-init c =
 
 pub rule_door-d-requires : goal.rule_door-d-requires
 rule_door-d-requires c =
-    (c.requires.view, below (goal.at.rule_door-d-requires c).In-loop-i)
+    (c.requires.view, omega (arith, below (goal.at.rule_door-d-requires c).In-loop-i))
 
 pub bounds-lists-d : goal.bounds-lists-d
 bounds-lists-d c =

@@ -28,7 +28,9 @@ point_before-last-requires c =
 
 pub end_cost-sum-requires : goal.end_cost-sum-requires
 end_cost-sum-requires c =
-    (c.requires.view, rw c.point_before-last.ensures (point_in c.requires (length c.args.doors.now) (omega arith)))
+    let last = point_in c.requires (length c.args.doors.now) (omega arith) in
+    let p = c.requires.point in
+    (c.requires.view, omega arith)
 
 pub loop-i-init : goal.loop-i-init
 loop-i-init c =
@@ -61,7 +63,9 @@ arrive-requires c =
 pub distance-requires : goal.distance-requires
 distance-requires c =
     let t = turn (goal.at.distance-requires c).In-loop-i in
-    (t.asked.view, from_in t c.point_before-from.ensures, to_in t c.arrive.ensures)
+    let from = from_in t c.point_before-from.ensures in
+    let to = to_in t c.arrive.ensures in
+    (t.asked.view, omega arith, omega arith)
 
 pub overflow_cast-sum-in-loop-i-2 : goal.overflow_cast-sum-in-loop-i-2
 overflow_cast-sum-in-loop-i-2 c =
