@@ -1,5 +1,5 @@
 -- A task that joins the list: the load grows by its change. The load of any list that a mask holds is a sum of so few changes that it
--- fits 64 bits, so the code's sum of bits stays the load. Assumes nothing.
+-- fits 64 bits, so the code's sum stays the load. Assumes nothing.
 use Rattle.model.proofs.Basics.{◌≡◌, refl, sym, ap, ap₂, ◌∙◌, ⊎_elim, cond, ℕ, zero, suc, ◌^◌, ◌≤◌, ◌<◌, arith, eqb, ℤ, pos, negsuc, ◌+ℤ◌}
 use Rattle.model.proofs.Basics.{nat_abs}
 use Rattle.model.specs.{bit, member, with, load_below, load, mask_bits}
@@ -68,16 +68,16 @@ load_fits S W n K = omega (
       (λ j l. W.change_down j) (omega (arith, W.end_load)) (omega arith),
 )
 
--- the bits `sum` hold the load of K
-pub record HoldsLoad (S : Sheet) (K sum : ℕ) : Type 0 where
-  pub is : to_z w64 sum ≡ load S K
+-- `sum` is the load of K
+pub record HoldsLoad (S : Sheet) (K : ℕ) (sum : ℤ) : Type 0 where
+  pub is : sum ≡ load S K
 
--- the sum of the bits `sum` and of the change x
-abbrev pub grown : ℕ → ℤ → ℤ
-grown sum x = to_z w64 sum +ℤ to_z w64 (of_z w64 (to_z w16 (of_z w16 x)))
+-- `sum` and the change x together
+abbrev pub grown : ℤ → ℤ → ℤ
+grown sum x = sum +ℤ to_z w64 (of_z w64 (to_z w16 (of_z w16 x)))
 
 -- x is the change of a task t that joins the list
-module _ {S : Sheet} {K sum : ℕ} (W : Widths S) (n : S.tasks ≤ mask_bits) (h : HoldsLoad S K sum) {t : ℕ} (l : t < S.tasks)
+module _ {S : Sheet} {K : ℕ} {sum : ℤ} (W : Widths S) (n : S.tasks ≤ mask_bits) (h : HoldsLoad S K sum) {t : ℕ} (l : t < S.tasks)
     (new : bit K t ≡ 0) {x : ℤ} (f : mag x < 2 ^ 15) (e : x ≡ S.change t) where
   grown_is : grown sum x ≡ load S (with K t)
   grown_is =
@@ -87,5 +87,5 @@ module _ {S : Sheet} {K sum : ℕ} (W : Widths S) (n : S.tasks ≤ mask_bits) (h
   pub join_fits : SFits w64 (grown sum x)
   join_fits = rw grown_is (record { sfits = load_fits S W n (with K t) })
 
-  pub join_load : HoldsLoad S (with K t) (of_z w64 (grown sum x))
+  pub join_load : HoldsLoad S (with K t) (to_z w64 (of_z w64 (grown sum x)))
   join_load = record { is = to_z-of_z w64 _ join_fits ∙ grown_is }

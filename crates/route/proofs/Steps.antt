@@ -67,14 +67,14 @@ legs_part S p ds zero l = le_refl (legs S p ds)
 legs_part S p ds (suc i) l = omega (arith, legs_from S p ds i (omega arith), legs_part S p ds i (omega arith))
 
 -- the steps from i on: their legs from where the van stands before them, and the load there
-pub record LegsFrom (S : Sheet) (p : ℕ) (ds : List ℕ) (i sum held : ℕ) : Type 0 where
+pub record LegsFrom (S : Sheet) (p : ℕ) (ds : List ℕ) (i sum : ℕ) (held : ℤ) : Type 0 where
   pub within : i ≤ length ds
   pub costs : sum ≡ legs S (point_before S p ds i) (drop i ds)
   pub holds : HoldsLoad S (open_at S ds i) held
 
 -- behind the last step the end cost and the end load are left
 pub no_leg : (S : Sheet) (p : ℕ) (ds : List ℕ) {last sum held : ℕ} → last ≡ point_before S p ds (length ds) → sum ≡ S.end_cost last
-    → held ≡ S.end_load → held < 2 ^ 16 → LegsFrom S p ds (length ds) sum held
+    → held ≡ S.end_load → held < 2 ^ 16 → LegsFrom S p ds (length ds) sum (to_z w64 held)
 unfolding open_at
 no_leg S p ds {held = held} e c l f = record {
   within = omega arith;
@@ -82,7 +82,7 @@ no_leg S p ds {held = held} e c l f = record {
   holds = record { is = rw drop-length (to_z_pos w64 held (omega arith) ∙ ap pos l ∙ sym (load_none S)) };
 }
 
-pub all_legs : {S : Sheet} {p : ℕ} {ds : List ℕ} {i sum held : ℕ} → LegsFrom S p ds i sum held → i ≤ 0 → sum ≡ legs S p ds
+pub all_legs : {S : Sheet} {p : ℕ} {ds : List ℕ} {i sum : ℕ} {held : ℤ} → LegsFrom S p ds i sum held → i ≤ 0 → sum ≡ legs S p ds
 all_legs {S} {p} {ds} {i} h l = let z : i ≡ 0 = omega arith in h.costs ∙ ap (λ (n : ℕ). legs S (point_before S p ds n) (drop n ds)) z
 
 -- ---- what was asked of the route
@@ -103,12 +103,12 @@ module _ {b : List ℕ} {v : View} {p : ℕ} {ds ts : List ℕ} (C : Costable b 
 
 -- ---- one step more: step j
 
-pub record Turn (b : List ℕ) (v : View) (p : ℕ) (ds ts : List ℕ) (j sum held : ℕ) : Type 0 where
+pub record Turn (b : List ℕ) (v : View) (p : ℕ) (ds ts : List ℕ) (j sum : ℕ) (held : ℤ) : Type 0 where
   pub asked : Costable b v p ds ts
   pub widths : Widths (decode b)
   pub behind : LegsFrom (decode b) p ds (suc j) sum held
 
-module _ {b : List ℕ} {v : View} {p : ℕ} {ds ts : List ℕ} {j sum held : ℕ} (t : Turn b v p ds ts j sum held) where
+module _ {b : List ℕ} {v : View} {p : ℕ} {ds ts : List ℕ} {j sum : ℕ} {held : ℤ} (t : Turn b v p ds ts j sum held) where
   inside : j < length ds
   inside = omega (arith, t.behind.within)
 
@@ -140,7 +140,7 @@ module _ {b : List ℕ} {v : View} {p : ℕ} {ds ts : List ℕ} {j sum held : �
     pub load_grows : SFits w64 (grown held x)
     load_grows = join_fits t.widths t.asked.tasks t.behind.holds its_task new f q
 
-    load_next : HoldsLoad (decode b) (open_at (decode b) ds j) (of_z w64 (grown held x))
+    load_next : HoldsLoad (decode b) (open_at (decode b) ds j) (to_z w64 (of_z w64 (grown held x)))
     load_next = rw (← joined) (join_load t.widths t.asked.tasks t.behind.holds its_task new f q)
 
     pub load_cast : T (non_neg (to_z w64 (of_z w64 (grown held x)))) × Fits w64 (nat_abs (to_z w64 (of_z w64 (grown held x))))
@@ -153,7 +153,7 @@ module _ {b : List ℕ} {v : View} {p : ℕ} {ds ts : List ℕ} {j sum held : �
         (hy : y ≡ (decode b).distance from a) where
       -- and w for the work
       pub next_leg : {w : ℕ} → w ≡ (decode b).work (get_or ds j 0)
-          → LegsFrom (decode b) p ds j (y * nat_abs (to_z w64 (of_z w64 (grown held x))) + w + sum) (of_z w64 (grown held x))
+          → LegsFrom (decode b) p ds j (y * nat_abs (to_z w64 (of_z w64 (grown held x))) + w + sum) (to_z w64 (of_z w64 (grown held x)))
       next_leg hw = record {
         within = omega (arith, inside);
         costs =

@@ -1,4 +1,6 @@
 // What a route costs, in kilogram decametres: its legs and its charges, each in one pass.
+#![tactic(auto)]
+
 ghost use Rattle.std.specs.Prelude.{◌≡◌, true, ◌≤◌, length};
 ghost use Rattle.model.specs.Folds.{map_below};
 ghost use Rattle.model.specs.SheetLayout.{max_doors, decode};
