@@ -1,5 +1,7 @@
 // The calls of the C interface, which vanplan_c exports and include/vanplan.h documents. Each returns 0, or the refusal's number with
 // nothing written.
+#![tactic(auto)]
+
 ghost use Rattle.std.specs.Prelude.{◌≡◌, length};
 ghost use Rattle.model.specs.Answer.{status, placed, placed_number};
 ghost use Rattle.model.specs.Faults.{read_sheet, tasks_left, points_left};
