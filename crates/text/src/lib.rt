@@ -1,4 +1,6 @@
 // Text: all that the print program prints for a sheet, line by line.
+#![tactic(auto)]
+
 ghost use Rattle.std.specs.Prelude.{◌≡◌, ◌+◌, ◌*◌, ◌≤◌, length};
 ghost use Rattle.model.specs.SheetLayout.{decode};
 ghost use Rattle.model.specs.PlanLayout.{max_plan_doors};

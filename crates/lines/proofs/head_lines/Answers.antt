@@ -1,5 +1,5 @@
 -- The line of the start is laid behind that of the cost; there is room for both. Assumes nothing.
-use Rattle.model.proofs.Basics.{◌+◌, arith, rules}
+use Rattle.model.proofs.Basics.{◌+◌, arith}
 use Rattle.model.specs.{ascii}
 use Rattle.lines.specs.Lines.{head_lines, max_digits}
 use Rattle.lines.proofs.Laying.{laid_on, behind, long_line}

@@ -1,5 +1,5 @@
 -- The number is put behind the label; there is room for any number. Assumes nothing.
-use Rattle.model.proofs.Basics.{◌+◌, arith, rules}
+use Rattle.model.proofs.Basics.{◌+◌, arith}
 use Rattle.model.specs.{decimal}
 use Rattle.lines.specs.Lines.{labelled, Laid}
 use Rattle.lines.proofs.Laying.{wrote, put_on, few}
@@ -17,7 +17,7 @@ both_laid : (c : After-put_number) →
 unfolding labelled
 both_laid c =
     let l : Laid c.args.at c.args.label.now c.args.out.now c.put_text.new.out (c.args.at + c.put_text.result) =
-        wrote (omega arith) c.put_text.ensures.written c.put_text.ensures.bytes in
+    wrote (omega arith) c.put_text.ensures.written c.put_text.ensures.bytes in
     put_on l (decimal _) (omega (arith, few _ c.ranges.n.fits)) c.put_number.ensures.written c.put_number.ensures.bytes
 
 pub overflow_add-behind : goal.overflow_add-behind

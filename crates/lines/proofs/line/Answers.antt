@@ -1,5 +1,5 @@
 -- The end of the line is put behind label and number; there is room for all three. Assumes nothing.
-use Rattle.model.proofs.Basics.{◌+◌, arith, rules}
+use Rattle.model.proofs.Basics.{◌+◌, arith}
 use Rattle.model.specs.{line_end}
 use Rattle.lines.specs.Lines.{line_of, Laid}
 use Rattle.lines.proofs.Laying.{put_on, long_label}

@@ -1,5 +1,5 @@
 -- Door, task and open list, one behind the other; there is room for three numbers. Assumes nothing.
-use Rattle.model.proofs.Basics.{◌+◌, ◌*◌, ◌≤◌, arith, length, rules}
+use Rattle.model.proofs.Basics.{◌+◌, ◌*◌, ◌≤◌, arith, length}
 use Rattle.model.specs.{ascii}
 use Rattle.lines.specs.Lines.{labelled, max_digits}
 use Rattle.lines.proofs.Laying.{laid_on, behind, long_label, step_is}

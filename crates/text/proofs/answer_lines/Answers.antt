@@ -1,0 +1,45 @@
+-- Planning leaves a plan, whose lines are laid as the bytes hold it, or a refusal, whose line is laid. Assumes nothing.
+use Rattle.model.proofs.Basics.{◌≡◌, sym, ap, ◌∙◌, true, are_bytes, rules}
+use Rattle.model.specs.{map_below, refused, line_at, plan_start_at, plan_doors_at, plan_cost_at, plan_length, plan, print}
+use Rattle.model.proofs.Tools.Elements.{are_bytes_lem}
+use Rattle.planner.specs.Answers.{answer_of}
+use Rattle.lines.proofs.Laying.{laid_as}
+use Rattle.text.proofs.Answered.{no_plan, refusal_printed, plan_held, plan_printed}
+use Rattle.text.proofs.answer_lines.Goals.{After-plan-planning}
+use Rattle.text.proofs.answer_lines.Goals as goal
+
+bytes : (c : After-plan-planning) → are_bytes c.args.s.now ≡ true
+bytes c = are_bytes_lem c.args.s.now c.type_inv.s
+
+-- what planning left, where the buffer for the plan was empty
+left : (c : After-plan-planning) →
+    let a = c.args in
+    let p = plan a.s.now a.cells.now no_plan in
+    (answer_of c.plan-planning.result ≡ p.answer) × (c.plan-planning.new.cells ≡ p.cells) × (c.plan-planning.new.buf ≡ p.bytes)
+unfolding map_below plan_length plan_cost_at plan_doors_at plan_start_at line_at
+left c = let w = c.plan-planning.ensures in (w.answer, w.cells, w.bytes)
+
+pub plan_lines-requires : goal.plan_lines-requires
+plan_lines-requires c =
+    let a = c.args in
+    let p = (goal.at.plan_lines-requires c).After-plan-planning in
+    let e = sym (ap answer_of c.in-Planned.is) ∙ (left p).0 in
+    (plan_held a.s.now a.cells.now (bytes p) e (left p).2, c.requires)
+
+-- the lines of the plan
+pub returns-in-Planned : goal.returns-in-Planned
+unfolding print
+returns-in-Planned c =
+    let a = c.args in
+    let p = (goal.at.returns-in-Planned c).After-plan-planning in
+    let e = sym (ap answer_of c.in-Planned.is) ∙ (left p).0 in
+    record { text = laid_as (plan_printed a.s.now a.cells.now (bytes p) e (left p).2) c.plan_lines.ensures; cells = (left p).1 }
+
+-- the line of the refusal
+pub returns-in-Refused : goal.returns-in-Refused
+unfolding print
+returns-in-Refused c =
+    let a = c.args in
+    let p = (goal.at.returns-in-Refused c).After-plan-planning in
+    let e = ap refused c.number_of.ensures ∙ sym (ap answer_of c.in-Refused.is) ∙ (left p).0 in
+    record { text = laid_as (refusal_printed a.s.now a.cells.now e) c.refusal_line.ensures; cells = (left p).1 }
