@@ -1,4 +1,5 @@
 -- The places in the array are those of the definition, so the loop's test is whether pair i is kept: where it is not, the loop ends.
+-- Assumes nothing.
 use Rattle.model.proofs.Basics.{◌≡◌, sym, ap, ◌∙◌, not, List, ℕ, ◌<◌, arith, ltb, get_or, lt-ltb, le-ltb}
 use Rattle.model.specs.{map_below, index_of, decode, keeps_pair, keeps_every_pair, breaks_pair, max_tasks}
 use Rattle.model.specs.Sheet.{Sheet}

@@ -1,4 +1,5 @@
 -- The places in the array are those of the definition, so the loop's test is whether pair i is kept: where it is not, the loop ends.
+-- Assumes nothing.
 use Rattle.model.proofs.Basics.{◌-◌}
 use Rattle.model.specs.{decode, keeps_pair}
 use Rattle.model.proofs.Tools.Searches.{PassedBelow}

@@ -9,11 +9,11 @@ use Rattle.feasible.proofs.Served.{none_seen, next_seen, seen_served, not_seen}
 use Rattle.feasible.proofs.some_lacks_door.Goals.{else-tasks-test, then-tasks-test+then-loop-v-test+then-doors-d}
 use Rattle.feasible.proofs.some_lacks_door.Goals as goal
 
-one-lacks : (S : Sheet) (t n : ℕ) → n ≡ S.tasks → t < n → lacks_door S t ≡ true → ltb t n ≡ any_below S.tasks (lacks_door S)
-one-lacks S t n e l h = lt-ltb t n l ∙ sym (any_true S.tasks (lacks_door S) t (omega arith) h)
+one_lacks : (S : Sheet) (t n : ℕ) → n ≡ S.tasks → t < n → lacks_door S t ≡ true → ltb t n ≡ any_below S.tasks (lacks_door S)
+one_lacks S t n e l h = lt-ltb t n l ∙ sym (any_true S.tasks (lacks_door S) t (omega arith) h)
 
-none-lacks : (S : Sheet) (t n : ℕ) → n ≤ t → t ≡ S.tasks → any_below t (lacks_door S) ≡ false → ltb t n ≡ any_below S.tasks (lacks_door S)
-none-lacks S t n l e h = le-ltb t n l ∙ sym (rw e at h)
+none_lacks : (S : Sheet) (t n : ℕ) → n ≤ t → t ≡ S.tasks → any_below t (lacks_door S) ≡ false → ltb t n ≡ any_below S.tasks (lacks_door S)
+none_lacks S t n l e h = le-ltb t n l ∙ sym (rw e at h)
 
 pub tasks-init : goal.tasks-init
 tasks-init c =
@@ -50,10 +50,10 @@ returns c =
     let n = tasks_are p.0 in
     elim c.tasks-test.branch [
       -- all tasks were tried
-      else-tasks-test w ↦ none-lacks _ o.t _ w.tasks-test.false (omega arith) o.invariant.2
+      else-tasks-test w ↦ none_lacks _ o.t _ w.tasks-test.false (omega arith) o.invariant.2
     -- the doors ended
     | then-tasks-test+then-loop-v-test+then-doors-d w ↦
         let e = sym w.contains.ensures ∙ w.loop-v-test.true in
-        one-lacks _ o.t _ n w.tasks-test.true
+        one_lacks _ o.t _ n w.tasks-test.true
         (not_seen w.loop-v.invariant (omega (arith, p.1)) (rw (← doors_are p.0) w.if-doors-d.true) e)
     ]

@@ -9,22 +9,22 @@ use Rattle.kernel_gather.proofs.gather.Goals.{In-loop-left}
 use Rattle.kernel_gather.proofs.gather.Goals as goal
 
 -- its door is the next of the set
-abbrev thisDoor : In-loop-left → ℕ
-thisDoor c = count_trailing_zeros max_doors c.loop-left.left
+abbrev this_door : In-loop-left → ℕ
+this_door c = count_trailing_zeros max_doors c.loop-left.left
 
-next : (c : In-loop-left) → NextDoor c.args.set (thisDoor c) c.loop-left.m
+next : (c : In-loop-left) → NextDoor c.args.set (this_door c) c.loop-left.m
 next c = next_door_lem c.loop-left.invariant.0 (omega arith)
 
 -- so its end and its cell are there, and its part fits
-abbrev thisSlot : In-loop-left → ℕ
-thisSlot c = get_or c.args.slot.now (thisDoor c) 0
+abbrev this_slot : In-loop-left → ℕ
+this_slot c = get_or c.args.slot.now (this_door c) 0
 
 there : (c : In-loop-left) →
     let a = c.args in
-    let end = get_or a.ends.now (thisSlot c) 0 in
-    let back = get_or a.back.now (thisDoor c) 0 in
-    (thisSlot c < length a.ends.now) × (back ≤ end) × (end - back < length a.cells.now)
-    × (get_or a.sums.now (thisDoor c) 0 + get_or a.cells.now (end - back) 0 < 2 ^ 64)
+    let end = get_or a.ends.now (this_slot c) 0 in
+    let back = get_or a.back.now (this_door c) 0 in
+    (this_slot c < length a.ends.now) × (back ≤ end) × (end - back < length a.cells.now)
+    × (get_or a.sums.now (this_door c) 0 + get_or a.cells.now (end - back) 0 < 2 ^ 64)
 unfolding rest_at part_at
 there c =
     let p = c.requires in
@@ -84,7 +84,7 @@ bounds-back-d c =
 
 pub overflow_cast-at : goal.overflow_cast-at
 overflow_cast-at c =
-    omega (arith, there (goal.at.overflow_cast-at c).In-loop-left, c.type_inv.ends (thisSlot (goal.at.overflow_cast-at c).In-loop-left))
+    omega (arith, there (goal.at.overflow_cast-at c).In-loop-left, c.type_inv.ends (this_slot (goal.at.overflow_cast-at c).In-loop-left))
 
 pub overflow_sub-at : goal.overflow_sub-at
 overflow_sub-at c =
