@@ -1,6 +1,6 @@
 -- The watched tasks of a list are counted up to 32, the mask's width: as many as below the sheet's number of tasks, for the list has no
 -- other. Assumes nothing.
-use Rattle.model.proofs.Basics.{arith, leb, rules}
+use Rattle.model.proofs.Basics.{arith}
 use Rattle.cost.proofs.Rules.{charge_times, times_le}
 use Rattle.cost.proofs.rule_charge.Goals as goal
 

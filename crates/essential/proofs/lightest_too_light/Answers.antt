@@ -39,8 +39,8 @@ loop-t-preserved c =
     let r = c.change-change in (
       omega arith,
       elim c.if-change-lt0.branch [
-        then-change-lt0 w ↦ rw w.lightest-is (next_sum h r.result r.type_inv (taken_away (decode c.args.s.now) h r.ensures r.type_inv w.if-change-lt0.true) (room (goal.at.loop-t-preserved c).In-loop-t))
-      | else-change-lt0 w ↦ rw w.lightest-is (same_sum h (not_taken (decode c.args.s.now) h r.ensures r.type_inv w.if-change-lt0.false))
+        | then-change-lt0 w ↦ rw w.lightest-is (next_sum h r.result r.type_inv (taken_away (decode c.args.s.now) h r.ensures r.type_inv w.if-change-lt0.true) (room (goal.at.loop-t-preserved c).In-loop-t))
+        | else-change-lt0 w ↦ rw w.lightest-is (same_sum h (not_taken (decode c.args.s.now) h r.ensures r.type_inv w.if-change-lt0.false))
       ],
     )
 

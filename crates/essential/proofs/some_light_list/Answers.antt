@@ -65,11 +65,11 @@ loop-k-preserved c =
     let few = p.1 in
     let st = c.steps-steps.ensures in
     elim c.if-load-lt0.branch [
-      then-load-lt0+else-closed w ↦
-        not_essential h st few (end_small (goal.at.loop-k-preserved c).After-end_load-load) n c.loop-k-test.true (omega arith) p.2
-        w.if-load-lt0.true w.closed.ensures c.senders-senders.ensures (tasks_are p.0) w.if-closed.false
-    | else-load-lt0 w ↦
-        heavy h st few (end_small (goal.at.loop-k-preserved c).After-end_load-load) n c.loop-k-test.true (omega arith) w.if-load-lt0.false
+      | then-load-lt0+else-closed w ↦
+          not_essential h st few (end_small (goal.at.loop-k-preserved c).After-end_load-load) n c.loop-k-test.true (omega arith) p.2
+          w.if-load-lt0.true w.closed.ensures c.senders-senders.ensures (tasks_are p.0) w.if-closed.false
+      | else-load-lt0 w ↦
+          heavy h st few (end_small (goal.at.loop-k-preserved c).After-end_load-load) n c.loop-k-test.true (omega arith) w.if-load-lt0.false
     ]
 
 -- none is

@@ -50,10 +50,10 @@ returns c =
     let n = tasks_are p.0 in
     elim c.tasks-test.branch [
       -- all tasks were tried
-      else-tasks-test w ↦ none_lacks _ o.t _ w.tasks-test.false (omega arith) o.invariant.2
-    -- the doors ended
-    | then-tasks-test+then-loop-v-test+then-doors-d w ↦
-        let e = sym w.contains.ensures ∙ w.loop-v-test.true in
-        one_lacks _ o.t _ n w.tasks-test.true
-        (not_seen w.loop-v.invariant (omega (arith, p.1)) (rw (← doors_are p.0) w.if-doors-d.true) e)
+      | else-tasks-test w ↦ none_lacks _ o.t _ w.tasks-test.false (omega arith) o.invariant.2
+      -- the doors ended
+      | then-tasks-test+then-loop-v-test+then-doors-d w ↦
+          let e = sym w.contains.ensures ∙ w.loop-v-test.true in
+          one_lacks _ o.t _ n w.tasks-test.true
+          (not_seen w.loop-v.invariant (omega (arith, p.1)) (rw (← doors_are p.0) w.if-doors-d.true) e)
     ]

@@ -24,7 +24,6 @@ module _ (c : After-backs-back) (S : Sheet) (P : Prepared S c.args.x c.args.colu
   rests : LayerRests S c.args.x.doors.task c.backs-back.result
   rests = layer_rests P.workable P.numbers.counts P.numbers.doors c.backs-back.ensures
 
-
 pub end_row-requires : goal.end_row-requires
 end_row-requires c =
     omega (arith, length-take-le c.args.x.counts.points c.args.even.now (first_room c.requires.1 c.requires.2.room_below), c.requires.1.numbers.counts.points, c.requires.1.workable.counts.points)

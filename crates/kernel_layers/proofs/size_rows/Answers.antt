@@ -42,9 +42,9 @@ loop-k-preserved c S A R T shown =
     let says = sym (told A _ R c.loop-k.k _ (stands_in_sheet h more) c.waiting-waiting.ensures h.some c.has_all.ensures) in
     let room = same_room p.1.counts A.counts p.4.room_here in
     elim c.if-has_all.branch [
-      then-has_all w ↦ let ess = says ∙ w.if-has_all.true in row_turn h more A.workable.counts.tasks room c.next-k.ensures ess
-      (w.here-is ∙ w.list_row.ensures S (listed A _ R c.loop-k.k _ (stands_in_sheet h more) c.waiting-waiting.ensures ess) T (rw (h.of_size more) shown))
-    | else-has_all w ↦ pass_turn h more A.workable.counts.tasks room c.next-k.ensures (says ∙ w.if-has_all.false) w.here-is
+      | then-has_all w ↦ let ess = says ∙ w.if-has_all.true in row_turn h more A.workable.counts.tasks room c.next-k.ensures ess
+          (w.here-is ∙ w.list_row.ensures S (listed A _ R c.loop-k.k _ (stands_in_sheet h more) c.waiting-waiting.ensures ess) T (rw (h.of_size more) shown))
+      | else-has_all w ↦ pass_turn h more A.workable.counts.tasks room c.next-k.ensures (says ∙ w.if-has_all.false) w.here-is
     ]
 
 pub returns : goal.returns

@@ -61,12 +61,11 @@ loop-left-smaller c =
     rw c.without-left.ensures (fewer c.loop-left.invariant.1 c.requires.list (task (goal.at.loop-left-smaller c).In-loop-left))
 
 pub loop-left-preserved : goal.loop-left-preserved
-loop-left-preserved c =
-    (
-      suc (task_of (goal.at.loop-left-preserved c).In-loop-left),
-      rw c.without-left.ensures (one_less c.loop-left.invariant.1 c.requires.list (task (goal.at.loop-left-preserved c).In-loop-left)),
-      next_load (so_far (goal.at.loop-left-preserved c).In-loop-left) _ (small (goal.at.loop-left-preserved c).In-loop-left) (opens (goal.at.loop-left-preserved c).In-loop-left) (there (goal.at.loop-left-preserved c).In-loop-left),
-    )
+loop-left-preserved c = (
+  suc (task_of (goal.at.loop-left-preserved c).In-loop-left),
+  rw c.without-left.ensures (one_less c.loop-left.invariant.1 c.requires.list (task (goal.at.loop-left-preserved c).In-loop-left)),
+  next_load (so_far (goal.at.loop-left-preserved c).In-loop-left) _ (small (goal.at.loop-left-preserved c).In-loop-left) (opens (goal.at.loop-left-preserved c).In-loop-left) (there (goal.at.loop-left-preserved c).In-loop-left),
+)
 
 pub overflow_cast-result : goal.overflow_cast-result
 overflow_cast-result c =

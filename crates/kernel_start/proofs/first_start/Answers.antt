@@ -22,8 +22,8 @@ loop-i-preserved c =
       omega arith,
       -- its cost is below the least so far, or is not
       elim c.if-c-least.branch [
-        then-c-least w ↦ rw (w.best-is, w.least-is) (best_next v refl w.if-c-least.true)
-      | else-c-least w ↦ rw (w.best-is, w.least-is) (best_same v refl w.if-c-least.false)
+        | then-c-least w ↦ rw (w.best-is, w.least-is) (best_next v refl w.if-c-least.true)
+        | else-c-least w ↦ rw (w.best-is, w.least-is) (best_same v refl w.if-c-least.false)
       ],
     )
 

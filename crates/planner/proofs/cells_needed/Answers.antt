@@ -1,5 +1,5 @@
 -- 32 bits times 16 bits do not wrap in 64. Assumes nothing.
-use Rattle.model.proofs.Basics.{◌*◌, ◌≤◌, mul-le-mul_right, arith, rules}
+use Rattle.model.proofs.Basics.{◌*◌, ◌≤◌, mul-le-mul_right, arith}
 use Rattle.planner.proofs.Sheets.{needed_is}
 use Rattle.planner.proofs.cells_needed.Goals as goal
 

@@ -1,9 +1,6 @@
 -- A sheet that reads goes on to be planned with its view, and a fault of the sheet is the answer. Assumes nothing.
-use Rattle.model.proofs.Basics.{sym, ap, ◌∙◌, rules}
+use Rattle.model.proofs.Basics.{sym, ap}
 use Rattle.model.specs.{status}
-use Rattle.view.specs.Views.{view_of}
-use Rattle.sheet.specs.Answers.{answer_of, view_in}
-use Rattle.sheet.specs.declared.Reading.{Reading}
 use Rattle.planner.proofs.Sheets.{in_parts, sheet_refused}
 use Rattle.planner.proofs.plan.Goals as goal
 

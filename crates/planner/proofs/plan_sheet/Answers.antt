@@ -1,11 +1,11 @@
 -- The sheet reads, so each call has what it asks; 20 and 21 leave everything, and past them the plan is carried out. Assumes nothing.
-use Rattle.model.proofs.Basics.{◌≡◌, List, ℕ, ◌*◌, ◌≤◌, ◌<◌, mul-le-mul, arith, rules}
+use Rattle.model.proofs.Basics.{◌≡◌, List, ℕ, ◌*◌, ◌≤◌, mul-le-mul, arith}
 use Rattle.model.specs.{decode, read_sheet, status}
 use Rattle.model.proofs.Tools.Elements.{are_bytes_lem}
 use Rattle.model.proofs.Calls.{Reading.Reads, Interface.reads_sheet}
 use Rattle.view.specs.{declared.View.View, Views.view_of, Views.Viewed}
 use Rattle.view.proofs.Counted.{tasks_are, points_are, starts_are}
-use Rattle.kernel_sheet.specs.Prepared.{Workable, Prepared}
+use Rattle.kernel_sheet.specs.Prepared.{Workable}
 use Rattle.kernel_prepare.proofs.Held.{workable, prepared}
 use Rattle.kernel_start.specs.Choosing.{Startable}
 use Rattle.kernel_start.proofs.Starting.{chosen_below}

@@ -14,9 +14,9 @@ two : (c : Joined-tasks-task) →
 two c =
     let p = c.requires.0 in
     elim c.if-tasks-task.branch [
-      then-tasks-task w ↦ w.value-is ∙ rw (← tasks_are p, ← c.task.ensures, le-leb _ _ w.if-tasks-task.true)
-    | else-tasks-task w ↦
-        w.value-is ∙ rw (← tasks_are p, ← points_are p, ← c.task.ensures, ← w.arrive.ensures, lt-leb _ _ w.if-tasks-task.false)
+      | then-tasks-task w ↦ w.value-is ∙ rw (← tasks_are p, ← c.task.ensures, le-leb _ _ w.if-tasks-task.true)
+      | else-tasks-task w ↦
+          w.value-is ∙ rw (← tasks_are p, ← points_are p, ← c.task.ensures, ← w.arrive.ensures, lt-leb _ _ w.if-tasks-task.false)
     ]
 
 -- the task or the arrival point is out of range

@@ -13,8 +13,8 @@ count_is : (c : Joined-least-lt1) →
 count_is c =
     let r = c.least_count-least in
     elim c.if-least-lt1.branch [
-      then-least-lt1 w ↦ w.bad_count-is ∙ rw (← r.ensures, ← outside 1 12 r.result, lt-ltb r.result 1 w.if-least-lt1.true)
-    | else-least-lt1 w ↦ w.bad_count-is ∙ rw (← r.ensures, ← outside 1 12 r.result, le-ltb r.result 1 w.if-least-lt1.false)
+      | then-least-lt1 w ↦ w.bad_count-is ∙ rw (← r.ensures, ← outside 1 12 r.result, lt-ltb r.result 1 w.if-least-lt1.true)
+      | else-least-lt1 w ↦ w.bad_count-is ∙ rw (← r.ensures, ← outside 1 12 r.result, le-ltb r.result 1 w.if-least-lt1.false)
     ]
 
 -- the door is out of range

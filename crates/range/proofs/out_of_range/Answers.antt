@@ -8,17 +8,17 @@ use Rattle.range.proofs.out_of_range.Goals as goal
 -- the first two searches, and the first three
 two : (c : Joined-some_bad_start) → let S = decode c.args.s.now in c.if-some_bad_door.value ≡ (some_bad_door S || some_bad_start S)
 two c = elim c.if-some_bad_door.branch [
-      then-some_bad_door w ↦ w.value-is ∙ rw (← c.some_bad_door.ensures, w.if-some_bad_door.true)
-    | else-some_bad_door w ↦ w.value-is ∙ rw (← c.some_bad_door.ensures, ← w.some_bad_start.ensures, w.if-some_bad_door.false)
-    ]
+  | then-some_bad_door w ↦ w.value-is ∙ rw (← c.some_bad_door.ensures, w.if-some_bad_door.true)
+  | else-some_bad_door w ↦ w.value-is ∙ rw (← c.some_bad_door.ensures, ← w.some_bad_start.ensures, w.if-some_bad_door.false)
+]
 
 three : (c : Joined-some_bad_start) →
     let S = decode c.args.s.now in
     c.if-some_bad_start.value ≡ (some_bad_door S || some_bad_start S || some_bad_pair S)
 three c = elim c.if-some_bad_start.branch [
-      then-some_bad_start w ↦ w.value-is ∙ rw (← two c, w.if-some_bad_start.true)
-    | else-some_bad_start w ↦ w.value-is ∙ rw (← two c, ← w.some_bad_pair.ensures, w.if-some_bad_start.false)
-    ]
+  | then-some_bad_start w ↦ w.value-is ∙ rw (← two c, w.if-some_bad_start.true)
+  | else-some_bad_start w ↦ w.value-is ∙ rw (← two c, ← w.some_bad_pair.ensures, w.if-some_bad_start.false)
+]
 
 -- a door, a start or a pair is bad
 pub returns-then-some_bad_pair : goal.returns-then-some_bad_pair

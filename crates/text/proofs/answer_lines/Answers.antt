@@ -1,5 +1,5 @@
 -- Planning leaves a plan, whose lines are laid as the bytes hold it, or a refusal, whose line is laid. Assumes nothing.
-use Rattle.model.proofs.Basics.{◌≡◌, sym, ap, ◌∙◌, true, are_bytes, rules}
+use Rattle.model.proofs.Basics.{◌≡◌, sym, ap, ◌∙◌, true, are_bytes}
 use Rattle.model.specs.{map_below, refused, line_at, plan_start_at, plan_doors_at, plan_cost_at, plan_length, plan, print}
 use Rattle.model.proofs.Tools.Elements.{are_bytes_lem}
 use Rattle.planner.specs.Answers.{answer_of}

@@ -1,5 +1,5 @@
 -- The plan in hand has the doors and the cost that the bytes hold; the lines of its steps are laid behind those of cost and start. Assumes nothing.
-use Rattle.model.proofs.Basics.{arith, rules}
+use Rattle.model.proofs.Basics.{arith}
 use Rattle.hand.specs.Hands.{hand_of}
 use Rattle.text.proofs.Stepping.{count}
 use Rattle.text.proofs.Holding.{Held, in_array, as_many_doors, steps, steps_room, plan_laid}

@@ -1,5 +1,4 @@
 -- The whole text is made apart, and put into the buffer that was lent if it fits. Assumes nothing.
-use Rattle.model.proofs.Basics.{rules}
 use Rattle.model.specs.{print}
 use Rattle.text.proofs.Whole.{front_is, front_long, printed_out}
 use Rattle.text.proofs.print.Goals as goal

@@ -1,8 +1,8 @@
 -- Each turn lays the line of one step behind the others, and strikes its task off the list that is left: the doors that are left complete
 -- it. Assumes nothing.
-use Rattle.model.proofs.Basics.{refl, ◌-◌, arith, rules}
+use Rattle.model.proofs.Basics.{refl, arith}
 use Rattle.lines.proofs.Laying.{laid_room}
-use Rattle.text.proofs.Stepping.{count, door_in_lem, Stepped, no_step, step_room, one_step, all_steps}
+use Rattle.text.proofs.Stepping.{count, door_in_lem, no_step, step_room, one_step, all_steps}
 use Rattle.text.proofs.step_lines.Goals as goal
 
 pub loop-i-init : goal.loop-i-init

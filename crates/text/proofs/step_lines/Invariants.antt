@@ -1,8 +1,7 @@
 -- Each turn lays the line of one step behind the others, and strikes its task off the list that is left: the doors that are left complete
 -- it. Assumes nothing.
-use Rattle.model.proofs.Basics.{refl, ◌-◌, arith, rules}
-use Rattle.lines.proofs.Laying.{laid_room}
-use Rattle.text.proofs.Stepping.{count, door_in_lem, Stepped, no_step, step_room, one_step, all_steps}
+use Rattle.model.proofs.Basics.{◌-◌}
+use Rattle.text.proofs.Stepping.{Stepped}
 use Rattle.text.proofs.step_lines.Given as goal
 
 abbrev pub invariant-loop-i : goal.invariant-loop-i
