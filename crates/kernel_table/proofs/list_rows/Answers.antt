@@ -46,8 +46,8 @@ loop-k-preserved c S a r t b =
     let tells = told a _ r _ _ in_list w h.some c.has_all.ensures in
     -- the row of an essential list was written, or nothing was
     elim c.if-has_all.branch [
-      then-has_all w' ↦ let e = sym tells ∙ w'.if-has_all.true in row_next h point more e (w'.cells-is ∙ w'.list_row.ensures S (listed a _ r _ _ in_list w e) t (known_so h point more))
-    | else-has_all w' ↦ pass_next h point more (sym tells ∙ w'.if-has_all.false) w'.cells-is
+      | then-has_all w' ↦ let e = sym tells ∙ w'.if-has_all.true in row_next h point more e (w'.cells-is ∙ w'.list_row.ensures S (listed a _ r _ _ in_list w e) t (known_so h point more))
+      | else-has_all w' ↦ pass_next h point more (sym tells ∙ w'.if-has_all.false) w'.cells-is
     ]
 
 pub shape_of-cells : goal.shape_of-cells

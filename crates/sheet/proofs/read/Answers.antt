@@ -18,8 +18,10 @@ pub returns-then-wrong_kind : goal.returns-then-wrong_kind
 unfolding sheet_tests unless_fault read_sheet
 returns-then-wrong_kind c =
     record {
-      answer = rw (sym c.too_short.ensures ∙ c.if-too_short.false,
-          sym c.wrong_kind.ensures ∙ c.if-wrong_kind.true);
+      answer = rw (
+        sym c.too_short.ensures ∙ c.if-too_short.false,
+        sym c.wrong_kind.ensures ∙ c.if-wrong_kind.true,
+      );
       view = refl;
     }
 
@@ -28,9 +30,11 @@ pub returns-then-some_wrong_entries : goal.returns-then-some_wrong_entries
 unfolding sheet_tests unless_fault read_sheet
 returns-then-some_wrong_entries c =
     record {
-      answer = rw (sym c.too_short.ensures ∙ c.if-too_short.false,
-          sym c.wrong_kind.ensures ∙ c.if-wrong_kind.false,
-          sym c.some_wrong_entries.ensures ∙ c.if-some_wrong_entries.true);
+      answer = rw (
+        sym c.too_short.ensures ∙ c.if-too_short.false,
+        sym c.wrong_kind.ensures ∙ c.if-wrong_kind.false,
+        sym c.some_wrong_entries.ensures ∙ c.if-some_wrong_entries.true,
+      );
       view = refl;
     }
 
@@ -39,18 +43,22 @@ pub returns-then-wrong_places : goal.returns-then-wrong_places
 unfolding sheet_tests unless_fault read_sheet
 returns-then-wrong_places c =
     record {
-      answer = rw (sym c.too_short.ensures ∙ c.if-too_short.false,
-          sym c.wrong_kind.ensures ∙ c.if-wrong_kind.false,
-          sym c.some_wrong_entries.ensures ∙ c.if-some_wrong_entries.false,
-          sym c.wrong_places.ensures ∙ c.if-wrong_places.true);
+      answer = rw (
+        sym c.too_short.ensures ∙ c.if-too_short.false,
+        sym c.wrong_kind.ensures ∙ c.if-wrong_kind.false,
+        sym c.some_wrong_entries.ensures ∙ c.if-some_wrong_entries.false,
+        sym c.wrong_places.ensures ∙ c.if-wrong_places.true,
+      );
       view = refl;
     }
 
 pub read_bodies-requires : goal.read_bodies-requires
-read_bodies-requires c =
-    (record {
-        long = sym c.too_short.ensures ∙ c.if-too_short.false;
-        kind = sym c.wrong_kind.ensures ∙ c.if-wrong_kind.false;
-        entries = sym c.some_wrong_entries.ensures ∙ c.if-some_wrong_entries.false;
-        places = sym c.wrong_places.ensures ∙ c.if-wrong_places.false;
-      }, c.of.ensures)
+read_bodies-requires c = (
+  record {
+    long = sym c.too_short.ensures ∙ c.if-too_short.false;
+    kind = sym c.wrong_kind.ensures ∙ c.if-wrong_kind.false;
+    entries = sym c.some_wrong_entries.ensures ∙ c.if-some_wrong_entries.false;
+    places = sym c.wrong_places.ensures ∙ c.if-wrong_places.false;
+  },
+  c.of.ensures,
+)
