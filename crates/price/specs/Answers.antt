@@ -5,9 +5,7 @@ use Rattle.refusal.specs.Numbers.{number_of}
 use Rattle.view.specs.declared.View.{View}
 use Rattle.price.specs.Pricing.{Price, RowPlace}
 use Rattle.price.specs.declared.Fitting.{Fitting}
-use Rattle.price.specs.declared.Fitting.TheVariants as Fitting
 use Rattle.price.specs.declared.Pricing.{Pricing}
-use Rattle.price.specs.declared.Pricing.TheVariants as Pricing
 
 -- what pricing answered
 abbrev pub answer_of : Pricing → Answer Price

@@ -1,4 +1,6 @@
 // The judge of document 01: whether bytes are a plan for a sheet, a solution with the cost that they state.
+#![tactic(auto)]
+
 ghost use Rattle.std.specs.Prelude.{◌≡◌, length};
 ghost use Rattle.model.specs.Answer.{accepted, refuse_first, status};
 ghost use Rattle.model.specs.SheetLayout.{decode};

@@ -1,13 +1,14 @@
 -- The sheet reads, so 22 is left, by the cells that each layer has. Assumes nothing.
-use Rattle.model.proofs.Basics.{◌≡◌, refl, sym, ap, ◌∙◌, ◌||◌, ℕ, ◌*◌, ◌≤◌, ltb, mul-le-mul_right, arith, rules}
+use Rattle.model.proofs.Basics.{◌≡◌, refl, sym, ap, ◌∙◌, ◌||◌, List, ℕ, ◌*◌, ◌≤◌, ltb, mul-le-mul_right, arith}
 use Rattle.model.specs.{decode}
 use Rattle.model.proofs.Calls.{Reading.Reads, Interface.reads_sheet}
-use Rattle.view.specs.Views.{Viewed}
+use Rattle.view.specs.{declared.View.View, Views.Viewed}
+use Rattle.rank.specs.Ranks.{most_lists_of}
 use Rattle.view.proofs.Counted.{tasks_are, points_are}
 use Rattle.sheet.proofs.Laid.{viewed, reads_laid}
 use Rattle.price.specs.Pricing.{short_layer, row_place}
 use Rattle.price.proofs.Fits.{needed_is, then_short}
-use Rattle.price.proofs.fit_sheet.Goals.{After-struct_known-1, Start}
+use Rattle.price.proofs.fit_sheet.Goals.{Start}
 use Rattle.price.proofs.fit_sheet.Goals as goal
 
 reads : (c : Start) → Reads c.args.s.now
@@ -17,12 +18,10 @@ seen : (c : Start) → Viewed c.args.s.now c.args.v
 seen c = viewed (reads_laid (reads c)) c.requires.1
 
 -- the cells that the code counts are those needed, so what it finds of the layers is what the definition says
-short_is : (c : After-struct_known-1) →
-    let a = c.args in
-    let n = c.most_lists.result * a.v.points in (ltb a.even n || ltb a.odd n) ≡ short_layer (decode a.s.now) a.even a.odd
+short_is : {b : List ℕ} {v : View} {n : ℕ} (even odd : ℕ) → Reads b → Viewed b v → n ≡ most_lists_of v.tasks
+    → (ltb even (n * v.points) || ltb odd (n * v.points)) ≡ short_layer (decode b) even odd
 unfolding short_layer
-short_is c =
-    ap (λ (n : ℕ). ltb c.args.even n || ltb c.args.odd n) (needed_is (reads c) (seen c) c.most_lists.ensures)
+short_is even odd h w e = ap (λ (n : ℕ). ltb even n || ltb odd n) (needed_is h w e)
 
 pub overflow_mul-needed : goal.overflow_mul-needed
 overflow_mul-needed c =
@@ -34,10 +33,14 @@ overflow_mul-needed c =
 pub returns-then-even-needed : goal.returns-then-even-needed
 unfolding row_place
 returns-then-even-needed c =
-    record { place = sym (then_short _ _ _ _ (reads (goal.at.returns-then-even-needed c).Start) ∙ rw (sym (short_is (goal.at.returns-then-even-needed c).After-struct_known-1) ∙ c.if-even-needed.true)); view = refl }
+    let s = (goal.at.returns-then-even-needed c).Start in
+    let e = short_is c.args.even c.args.odd (reads s) (seen s) c.most_lists.ensures in
+    record { place = sym (then_short _ _ _ _ (reads s) ∙ rw (sym e ∙ c.if-even-needed.true)); view = refl }
 
 -- both have room
 pub returns : goal.returns
 unfolding row_place
 returns c =
-    record { place = sym (then_short _ _ _ _ (reads (goal.at.returns c).Start) ∙ rw (sym (short_is (goal.at.returns c).After-struct_known-1) ∙ c.if-even-needed.false, tasks_are (seen (goal.at.returns c).Start), points_are (seen (goal.at.returns c).Start))); view = c.requires.1 }
+    let s = (goal.at.returns c).Start in
+    let e = short_is c.args.even c.args.odd (reads s) (seen s) c.most_lists.ensures in
+    record { place = sym (then_short _ _ _ _ (reads s) ∙ rw (sym e ∙ c.if-even-needed.false, tasks_are (seen s), points_are (seen s))); view = c.requires.1 }

@@ -1,5 +1,5 @@
 -- The start that was chosen is one of the sheet's, so its point has a cell in the row. Assumes nothing.
-use Rattle.model.proofs.Basics.{ap, ℕ, ◌*◌, ◌^◌, ◌<◌, arith, length, get_or, rules}
+use Rattle.model.proofs.Basics.{ap, ℕ, ◌*◌, ◌^◌, ◌<◌, arith, length, get_or}
 use Rattle.model.specs.{max_starts}
 use Rattle.kernel_start.specs.Choosing.{start_cost}
 use Rattle.kernel_start.proofs.Starting.{chosen_below, start_in_lem}
