@@ -101,6 +101,7 @@ fn next_door(
 }
 
 // The cheapest completion from point p with list k open, which is one that the pairs allow, in hand.
+#[inline(never)]
 pub fn complete(x: Numbers, columns: &[u64], p: u16, k: u32, cells: &[u64]) -> Plan
     requires { (S : Sheet) × Completable S x columns.now k p cells.now }
     ensures { (S : Sheet) → Completable S x columns.now k p cells.now → hand_of result ≡ completed S k p }

@@ -126,6 +126,7 @@ fn list_rows(
 }
 
 // Fills the table: the end costs, then for every essential list its row. Every other cell stays.
+#[inline(never)]
 pub fn fill(x: Numbers, columns: &[u64], cells: &mut [u64])
     requires { (S : Sheet) × Prepared S x columns.now × (cells_needed S ≤ length cells.old) }
     ensures { (S : Sheet) → Prepared S x columns.now → cells.new ≡ cells_after S cells.old }

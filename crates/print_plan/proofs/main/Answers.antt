@@ -1,5 +1,5 @@
 -- What is printed lies within its own array. Assumes nothing.
-use Rattle.std.proofs.Common.{sym, ◌≤◌, length, take, length-take-le}
+use Rattle.std.proofs.Common.{sym, ◌≤◌, length, length-take-le}
 use Rattle.text.proofs.Whole.{written_within}
 use Rattle.print_plan.proofs.main.Goals.{After-print-end}
 use Rattle.print_plan.proofs.main.Goals as goal
