@@ -1,5 +1,5 @@
-/* How the examples write their files: they remove and overwrite nothing but a plan, and what they write is whole or not
- * there at all. This comes before all other headers, since it asks for the calls of POSIX. */
+/* How the examples write their files: they remove and overwrite nothing but a plan or an empty file, and what they write
+ * is whole or not there at all. This comes before all other headers, since it asks for the calls of POSIX. */
 #ifndef OUTPUT_H
 #define OUTPUT_H
 
@@ -58,7 +58,7 @@ static inline enum found read_output(const char *name, uint8_t *room, size_t siz
     return got < 0 ? FAILED : FOUND;
 }
 
-/* Looks for a plan. Any other file is a failure. */
+/* Looks for a plan, or an empty file, in which nothing can be lost. Any other file is a failure. */
 static inline enum found find_plan(const char *name)
 {
     uint8_t bytes[VANPLAN_MAX_PLAN_BYTES + 1];
@@ -67,7 +67,7 @@ static inline enum found find_plan(const char *name)
     size_t len = 0, n;
     enum found found = read_output(name, bytes, sizeof bytes, &len);
 
-    if (found != FOUND)
+    if (found != FOUND || len == 0)
         return found;
     /* Its length tells how many tasks a plan has; a length that no plan has is refused. */
     n = len < VANPLAN_PLAN_BYTES(0) ? 0 : (len - VANPLAN_PLAN_BYTES(0)) / 2;

@@ -81,7 +81,6 @@ spares() {
     rm -rf "$folder"
     mkdir -p "$folder/folder.plan"
     cp examples/eight.sheet "$folder/sheet.plan"
-    : >"$folder/empty.plan"
     { cat examples/a.plan; echo; } >"$folder/long.plan"
     cp "$scratch/dear.plan" "$folder/old.plan"
     ln -s old.plan "$folder/link.plan"
@@ -89,7 +88,7 @@ spares() {
     mkfifo "$folder/pipe.plan"
     exec {pipe}<>"$folder/pipe.plan" # so that writing to it does not wait for a reader
     before=$(listing "$folder")
-    for file in sheet empty long link lost folder pipe; do
+    for file in sheet long link lost folder pipe; do
         case $file in
         link | lost) kind="a symbolic link" ;;
         folder) kind="a folder" ;;
@@ -350,7 +349,7 @@ rust_fleet() {
         echo "$sheet: $("$scratch/plan" "$scratch/one.plan" <"$sheet")"
     done | LC_ALL=C sort)
     mkdir -p "$scratch/plans"
-    cp examples/a.plan "$scratch/plans/torn.plan"
+    touch "$scratch/plans/torn.plan"
     prints "rust/examples/fleet.rs examples" "$due" 1 fleet_lines
     same "$scratch/plans/a.plan" examples/a.plan
     gone "$scratch/plans/torn.plan"

@@ -74,7 +74,7 @@ readme_fleet() {
     mkdir -p "$fleet/rounds"
     ln -s "$PWD/target" "$fleet/target"
     cp examples/*.sheet "$fleet/rounds"
-    cp examples/a.plan "$fleet/rounds/torn.sheet.plan"
+    touch "$fleet/rounds/torn.sheet.plan"
     cp examples/a.sheet "$fleet/rounds/a-pair.sheet.plan"
     if (cd "$fleet" && bash -c "$line"); then
         fail "README's folder of rounds: status 0, although sheets are refused"

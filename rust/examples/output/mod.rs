@@ -1,5 +1,5 @@
-//! How the examples write a plan: they remove and overwrite nothing but a plan, and what they write is whole or not there
-//! at all.
+//! How the examples write a plan: they remove and overwrite nothing but a plan or an empty file, and what they write is
+//! whole or not there at all.
 
 use crate::console::{named, read_file, Result};
 use std::ffi::OsStr;
@@ -10,7 +10,8 @@ use std::path::{Path, PathBuf};
 use std::process;
 use vanplan::{Plan, Refusal, MAX_PLAN_BYTES};
 
-/// Whether a plan is there. Anything else that is there is a failure, and is to be left alone.
+/// Whether a plan is there, or an empty file, in which nothing can be lost. Anything else that is there is a failure, and is
+/// to be left alone.
 pub fn look(file: &Path) -> Result<bool> {
     let kind = match fs::symlink_metadata(file) {
         Ok(there) => there.file_type(),
@@ -23,10 +24,12 @@ pub fn look(file: &Path) -> Result<bool> {
         "a symbolic link"
     } else if !kind.is_file() {
         "a device, pipe or socket"
-    } else if Plan::from_bytes(&read_file(file, MAX_PLAN_BYTES)?).is_err() {
-        "a file that is no plan"
     } else {
-        return Ok(true);
+        let bytes = read_file(file, MAX_PLAN_BYTES)?;
+        if bytes.is_empty() || Plan::from_bytes(&bytes).is_ok() {
+            return Ok(true);
+        }
+        "a file that is no plan"
     };
     let file = file.display();
     Err(format!("{file}: {kind} is there, and is left as it is"))
