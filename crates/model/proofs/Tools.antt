@@ -1,4 +1,4 @@
--- Tools: tests that compute, tables, folds, lists, loops that search, sum or choose, and calls that refuse. They say nothing of sheets.
+-- Tools: tests that compute, tables, folds, lists, loops that search, sum or choose, chains of iterators, and calls that refuse. They say nothing of sheets.
 pub mod Tests
 pub mod Tables
 pub mod Folds
@@ -11,4 +11,5 @@ pub mod Searches
 pub mod SignedSums
 pub mod Choices
 pub mod Scans
+pub mod Chains
 pub mod Refusing
