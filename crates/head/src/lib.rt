@@ -7,7 +7,7 @@ ghost use Rattle.model.specs.SheetLayout.{line_body, line_offset, entries};
 
 use number::read_u16;
 
-// The bodies, counted from 0.
+// The bodies, counted from 0. They are numbers and no enum: the readers below take any number for a line, and a type of seven would ask more of callers.
 pub const TASKS_BODY: u16 = 0;
 
 pub const DOORS_BODY: u16 = 1;
@@ -38,18 +38,21 @@ fn in_line(s: &[u8], i: u16, before: u16) -> u16
 }
 
 // Of contents line i: the body number, the offset and the number of entries that it states.
+#[tactic(auto, unfolding(model::specs::SheetLayout::line_at, model::specs::SheetLayout::line_body))]
 pub fn line_body(s: &[u8], i: u16) -> u16
     ensures { result ≡ line_body s.now i }
 {
     in_line(s, i, 0)
 }
 
+#[tactic(auto, unfolding(model::specs::SheetLayout::line_at, model::specs::SheetLayout::line_offset))]
 pub fn line_offset(s: &[u8], i: u16) -> u16
     ensures { result ≡ line_offset s.now i }
 {
     in_line(s, i, 2)
 }
 
+#[tactic(auto, unfolding(model::specs::SheetLayout::line_at, model::specs::SheetLayout::entries))]
 pub fn entries(s: &[u8], i: u16) -> u16
     ensures { result ≡ entries s.now i }
 {

@@ -33,6 +33,7 @@ pub fn byte_length(n: u16) -> usize
     DOORS_AT + 2 * n as usize + COST_BYTES
 }
 
+// The one kind of plan: an enum of one kind would be no plainer than its number.
 const KIND: u16 = 2;
 
 const HEAD_NUMBERS: usize = 11;
@@ -51,8 +52,7 @@ fn head(n: u16) -> [u16; HEAD_NUMBERS]
 pub fn write_head(b: &mut [u8], n: u16)
     ensures { b.new ≡ overwrite_at 0 (plan_head n) b.old }
 {
-    let row = head(n);
-    write_row(b, 0, &row);
+    write_row(b, 0, &head(n));
 }
 
 // Whether the bytes, of which there are enough, do not begin with the head of a plan of n doors.
@@ -60,13 +60,10 @@ fn wrong_head(n: u16, q: &[u8]) -> bool
     requires { plan_start_at ≤ length q.now }
     ensures { result ≡ wrong_head n q.now }
 {
-    let numbers = head(n);
-    let mut k: usize = 0;
-    while k < HEAD_NUMBERS {
-        if read_u16(q, 2 * k) != numbers[k] {
+    for (k, number) in head(n).iter().enumerate() {
+        if read_u16(q, 2 * k) != *number {
             return true;
         }
-        k = k + 1;
     }
     false
 }
@@ -89,14 +86,12 @@ pub fn cost_in(n: u16, q: &[u8]) -> u64
 pub fn read_doors(n: u16, q: &[u8], doors: &mut [u16])
     ensures { doors.new ≡ door_array (length doors.old) n (door_in q.now) }
 {
-    let mut i: usize = 0;
-    while i < doors.len() {
-        let mut door: u16 = 0;
-        if i < n as usize {
-            door = door_in(q, i as u16);
-        }
-        doors[i] = door;
-        i = i + 1;
+    for i in 0..doors.len() {
+        doors[i] = if i < n as usize {
+            door_in(q, i as u16)
+        } else {
+            0
+        };
     }
 }
 

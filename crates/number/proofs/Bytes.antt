@@ -1,9 +1,44 @@
--- Numbers of several bytes as the code puts them together. Assumes nothing.
-use Rattle.model.proofs.Basics.{◌≡◌, refl, sym, ap₂, ◌∙◌, List, ℕ, zero, suc, ◌+◌, ◌*◌, ◌^◌, ◌≤◌, zero-add, add-zero, add-one}
-use Rattle.model.proofs.Basics.{arith, length, get_or}
-use Rattle.model.specs.{number_at}
+-- The bytes that the code gathers, as the number that they stand for. Assumes nothing.
+use Rattle.model.proofs.Basics.{◌≡◌, refl, sym, ap₂, ◌∙◌, List, ℕ, zero, suc, ◌+◌, ◌*◌, ◌^◌, ◌≤◌, min, zero-add, add-zero, add-one, arith, leb, length, get_or}
+use Rattle.model.proofs.Basics.{leb-true, leb-false, le_refl}
 use native.Mathlib.Nat.{suc-add, add-suc, mul_assoc, pow-suc}
+use Rattle.model.specs.{map_below, number_at}
+use Rattle.model.proofs.Bytes.Numbers.{number_sum}
+use Rattle.model.proofs.Tools.Tests.{by_test}
 use lib.ListN.{get_or-eq_default}
+use lib.Seq.{get_or-drop}
+use Rattle.std.proofs.lemmas.Slice.{between_to_end}
+use Rattle.std.specs.List.{between}
+use Rattle.std.specs.Int.{w16, w32, w64, from_le_bytes}
+
+-- behind the end there are zeros, and so no place behind it differs from the end
+byte_from : (b : List ℕ) (i k m : ℕ) → m ≡ min i (length b) → get_or b (m + k) 0 ≡ get_or b (i + k) 0
+byte_from b i k m e = by_test (leb i (length b))
+    (λ w. let q : m ≡ i = omega (arith, leb-true i (length b) w) in rw q)
+    (λ w. let l = leb-false i (length b) w in get_or-eq_default b 0 (omega arith) ∙ sym (get_or-eq_default b 0 (omega arith)))
+
+-- the rest of the bytes has them from its front on
+pub rest_at : (b : List ℕ) (i k m : ℕ) → m ≡ min i (length b) → get_or (between m (length b) b) k 0 ≡ get_or b (i + k) 0
+rest_at b i k m e = rw (between_to_end b m (length b) (le_refl (length b))) (get_or-drop m b k 0 ∙ byte_from b i k m e)
+
+-- the k bytes from byte i on
+abbrev pub bytes_from : ℕ → List ℕ → ℕ → List ℕ
+bytes_from k b i = map_below k (λ j. get_or b (i + j) 0)
+
+-- std's number of them is that of the definition
+pub le_number_2 : (b : List ℕ) (i : ℕ) {bytes : List ℕ} {r : ℕ} → bytes ≡ bytes_from 2 b i → r ≡ from_le_bytes w16 bytes → r ≡ number_at 2 b i
+unfolding map_below
+le_number_2 b i e n = omega (arith, number_sum 2 b i, rw e at n)
+
+pub le_number_4 : (b : List ℕ) (i : ℕ) {bytes : List ℕ} {r : ℕ} → bytes ≡ bytes_from 4 b i → r ≡ from_le_bytes w32 bytes → r ≡ number_at 4 b i
+unfolding map_below
+le_number_4 b i e n = omega (arith, number_sum 4 b i, rw e at n)
+
+pub le_number_8 : (b : List ℕ) (i : ℕ) {bytes : List ℕ} {r : ℕ} → bytes ≡ bytes_from 8 b i → r ≡ from_le_bytes w64 bytes → r ≡ number_at 8 b i
+unfolding map_below
+le_number_8 b i e n = omega (arith, number_sum 8 b i, rw e at n)
+
+-- ---- of any number of bytes
 
 -- behind the end there are zeros
 pub number_beyond : (k : ℕ) (b : List ℕ) (i : ℕ) → length b ≤ i → 0 ≡ number_at k b i

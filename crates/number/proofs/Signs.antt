@@ -1,13 +1,26 @@
--- Two's complement of two bytes, as the code takes it. Assumes nothing.
-use Rattle.model.proofs.Basics.{◌≡◌, ap, ◌∙◌, ℕ, ◌*◌, ◌≤◌, ◌<◌, arith, ℤ, pos, negsuc, lt-ltb, le-ltb}
+-- Two's complement of two bytes, as the library takes it. Assumes nothing.
+use Rattle.model.proofs.Basics.{◌≡◌, ap, ◌∙◌, ℕ, ℤ, pos, negsuc, ◌*◌, ◌≤◌, ◌<◌, ◌^◌, ltb, arith, lt-ltb, le-ltb, ltb-true, ltb-false, to_z, of_z}
 use Rattle.model.specs.{signed}
+use Rattle.model.proofs.Tools.Tests.{by_test}
+use Rattle.std.proofs.lemmas.Int.{of_z-to_z}
 use native.Mathlib.Nat.{lt_of_lt_of_le}
 use lib.Dec.{lit≤}
 use lib.IntN.{◌-ℤ◌}
 use lib.Signed.{mag}
 use mir.Syntax.{w16, w32}
-use mir.Val.{to_z, of_z, SFits}
+use mir.Val.{SFits}
 use mir.ValLaws.{to_z-of_z, to_z_pos}
+
+two_bytes : (n : ℕ) → n < 2 ^ 16 → to_z w16 n ≡ signed 2 n
+unfolding signed
+two_bytes n h = by_test (ltb (2 * n) (256 ^ 2))
+    (λ w. rw (w, lt-ltb n 32768 (omega (arith, ltb-true (2 * n) (256 ^ 2) w))))
+    (λ w. rw (w, le-ltb n 32768 (omega (arith, ltb-false (2 * n) (256 ^ 2) w))) (ap negsuc (omega arith)))
+
+pub signed_16 : (n : ℕ) (z : ℤ) → n < 2 ^ 16 → z ≡ to_z w16 n → to_z w16 (of_z w16 z) ≡ signed 2 n
+signed_16 n z h e = rw (e, of_z-to_z w16 n h) (two_bytes n h)
+
+-- ---- taken by hand
 
 -- below 32,768 a number stands for itself
 pub signed_small : (n : ℕ) → n < 32768 → to_z w16 n ≡ signed 2 n

@@ -5,48 +5,40 @@ ghost use Rattle.std.specs.Prelude.{◌≡◌};
 ghost use Rattle.model.specs.Bytes.{bytes_of, overwrite_at};
 ghost use Rattle.store.specs.Rows.{row_bytes};
 
+// Writes bytes from byte i on, if all are in the buffer.
+fn write(b: &mut [u8], i: usize, bytes: &[u8])
+    ensures { b.new ≡ overwrite_at i bytes.now b.old }
+{
+    if i <= b.len() && bytes.len() <= b.len() - i {
+        b[i..i + bytes.len()].copy_from_slice(bytes);
+    }
+}
+
 // Writes a number to the two bytes from byte i on, if both are in the buffer.
+#[tactic(auto, using(crate::proofs::Writing::two_written))]
 pub fn write_u16(b: &mut [u8], i: usize, v: u16)
     ensures { b.new ≡ overwrite_at i (bytes_of 2 v) b.old }
 {
-    let room = b.len();
-    if room <= i {
-        return;
-    }
-    if room - i < 2 {
-        return;
-    }
-    b[i] = (v % 256) as u8;
-    b[i + 1] = (v / 256) as u8;
+    let two = v.to_le_bytes();
+    write(b, i, &two);
 }
 
 // Writes the numbers of a row one behind the other from byte `at` on, if all are in the buffer.
 pub fn write_row(b: &mut [u8], at: usize, row: &[u16])
     ensures { b.new ≡ overwrite_at at (row_bytes row.now) b.old }
 {
-    let n = row.len();
-    let room = b.len();
-    if room < at {
-        return;
-    }
-    if (room - at) / 2 < n {
-        return;
-    }
-    let mut i: usize = 0;
-    while i < n {
-        write_u16(b, at + 2 * i, row[i]);
-        i = i + 1;
+    if at <= b.len() && row.len() <= (b.len() - at) / 2 {
+        for (i, v) in row.iter().enumerate() {
+            write_u16(b, at + 2 * i, *v);
+        }
     }
 }
 
 // Writes a number to the eight bytes from byte i on, if all are in the buffer.
+#[tactic(auto, using(crate::proofs::Writing::eight_written))]
 pub fn write_u64(b: &mut [u8], i: usize, v: u64)
     ensures { b.new ≡ overwrite_at i (bytes_of 8 v) b.old }
 {
-    let first = (v % 65536) as u16;
-    let second = (v / 65536 % 65536) as u16;
-    let third = (v / 4294967296 % 65536) as u16;
-    let fourth = (v / 281474976710656) as u16;
-    let parts = [first, second, third, fourth];
-    write_row(b, i, &parts);
+    let eight = v.to_le_bytes();
+    write(b, i, &eight);
 }

@@ -1,14 +1,17 @@
 -- The machine's shifts, masks and count of ones, on words of w bits, are the operations on lists: a mask of one bit takes out the task or
 -- nothing, and the bits of a masked list are the tasks that are in both. Assumes nothing.
 use Rattle.model.proofs.Basics.{◌≡◌, sym, ap, ◌∙◌, ⊎_elim, Bool, true, false, cond, not, ◌&&◌, ℕ, zero, suc, ◌+◌, ◌-◌, ◌*◌, ◌/◌, ◌%◌, ◌^◌}
-use Rattle.model.proofs.Basics.{◌≤◌, ◌<◌, min, lt_of_le_of_lt, arith, eqb, ltb, eqb-false, ne_eqb, lt-ltb, le-ltb, not-true}
-use Rattle.model.specs.{any_below, sum_below, count_below, bit, member, with, without, watched_in, with_in, meets}
-use Rattle.model.proofs.Tools.Tests.{tested, same_test, none_at, one_passes, any_cong}
+use Rattle.model.proofs.Basics.{◌≤◌, ◌<◌, min, lt_of_le_of_lt, arith, eqb, ltb, eqb-false, ne_eqb, lt-ltb, le-ltb, ltb-true, ltb-false, not-true}
+use Rattle.model.specs.{any_below, sum_below, count_below, bit, member, with, without, watched_in, mask_bits, with_in, lists_of, meets}
+use Rattle.model.proofs.Tools.Tests.{by_test, tested, same_test, none_at, one_passes, any_cong}
 use Rattle.model.proofs.Tools.Folds.{sum_cong, sum_first}
-use Rattle.model.proofs.TaskLists.Masks.{bit_zero, bit_suc, bit_lt, bit_none, bit_cases, member_bit, not_member_bit, counted, bit_above, no_bits}
+use Rattle.model.proofs.TaskLists.Masks.{bit_zero, bit_suc, bit_lt, bit_none, bit_cases, member_bit, not_member_bit, counted, bit_above, no_bits, without_none, lists_of_lem, no_lists}
 use lib.Arith.{lt-one}
 use lib.Pow.{pow-lt, shl_exact}
 use lib.Bits.{bit_and, bit_or, and_mask, and_step, and_comm, and_shr, and_le_l, or_add_and, and_high}
+use Rattle.std.specs.Int.Bits.{or_zero_r}
+use Rattle.std.specs.Option.{SomeIff, unwrap_or}
+use Rattle.std.specs.Prelude.{Option, Some, None}
 use lib.Count.{ones, ones_step}
 
 -- ---- single bits
@@ -68,6 +71,25 @@ not_joined w K j h = rw le-ltb
 pub struck : (w K j : ℕ) → j < w → K < 2 ^ w → bit_and K (2 ^ w - 1 - 1 * 2 ^ j % 2 ^ w) ≡ without K j
 unfolding without
 struck w K j l h = rw one_bit (omega (arith, apart w K (2 ^ j) h (pow-lt l), taken_out K j))
+
+-- ---- the mask of one task, and 0 where it has no bit
+
+-- what the checked shift gives
+pub lone_bit : (j r : ℕ) (o : Option ℕ) → SomeIff o (r < 32) (1 * 2 ^ r % 2 ^ 32) → r ≡ j → unwrap_or o 0 ≡ lists_of j
+lone_bit j r None s e = let far : 32 ≤ j = omega (arith, s) in sym (no_lists j far)
+lone_bit j r (Some x) s e = rw (← e) (s.1 ∙ one_bit 32 r s.0 ∙ sym (lists_of_lem r s.0))
+
+pub bit_joined : (K j : ℕ) {m : ℕ} → m ≡ lists_of j → K < 2 ^ 32 → bit_or K m ≡ with_in mask_bits K j
+bit_joined K j e h = by_test (ltb j 32)
+    (λ w. let l = ltb-true j 32 w in ap (bit_or K) (e ∙ lists_of_lem j l ∙ sym (one_bit 32 j l)) ∙ joined 32 K j l h)
+    (λ w. let l = ltb-false j 32 w in ap (bit_or K) (e ∙ no_lists j l) ∙ or_zero_r K ∙ not_joined 32 K j l)
+
+pub bit_struck : (K j : ℕ) {m : ℕ} → m ≡ lists_of j → K < 2 ^ 32 → bit_and K (2 ^ 32 - 1 - m) ≡ without K j
+bit_struck K j e h = by_test (ltb j 32)
+    (λ w. let l = ltb-true j 32 w in
+    ap (λ (m : ℕ). bit_and K (2 ^ 32 - 1 - m)) (e ∙ lists_of_lem j l ∙ sym (one_bit 32 j l)) ∙ struck 32 K j l h)
+    (λ w. let l = ltb-false j 32 w in
+    ap (λ (m : ℕ). bit_and K (2 ^ 32 - 1 - m)) (e ∙ no_lists j l) ∙ and_mask K 32 ∙ omega arith ∙ sym (without_none K j (bit_above 32 j K h l)))
 
 -- ---- tasks in both lists
 

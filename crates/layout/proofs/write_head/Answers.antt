@@ -4,4 +4,4 @@ use Rattle.layout.proofs.write_head.Goals as goal
 
 pub returns : goal.returns
 returns c =
-    head_written _ _ _ _ c.head-row.ensures c.write_row.ensures
+    head_written _ _ _ _ c.head.ensures c.write_row.ensures
