@@ -2,9 +2,8 @@
 // Each reader asks that the view is that of the bytes, that the sheet ends with its last body, and that the entry is below its count.
 #![tactic(auto)]
 
-ghost use Rattle.std.specs.Prelude.{◌≡◌, ◌+◌, ◌*◌, ◌≤◌, ◌<◌, length};
-ghost use Rattle.model.specs.Bytes.{number_at};
-ghost use Rattle.model.specs.SheetLayout.{decode};
+ghost use Rattle.std.specs.Prelude.{◌≡◌, ℕ, ◌+◌, ◌*◌, ◌≤◌, ◌<◌, length, slice_index};
+ghost use Rattle.model.specs.Folds.{map_below};
 ghost use Rattle.view.specs.Views.{view_of, Viewed};
 
 use head::{DOORS_BODY, PAIRS_BODY, POINTS_BODY, RULES_BODY, STARTS_BODY, TASKS_BODY, entries};
@@ -55,6 +54,14 @@ pub struct View {
     pub at: Places,
 }
 
+// A task sheet whose layout holds: its bytes, with the view of them.
+#[derive(Clone, Copy)]
+pub struct TaskSheet<'a> {
+    pub bytes: &'a [u8],
+    pub view: View,
+    ghost viewed: { Viewed bytes.now view },
+}
+
 // Where a body ends that begins at byte `at` and has that many entries of `size` bytes.
 fn behind(at: u32, entries: u16, size: u32) -> u32
     requires { at + entries * size < 4294967296 }
@@ -81,12 +88,12 @@ impl View {
         let points_at = behind(rules_at, rules, RULE_BYTES);
         let distances_at = behind(points_at, points, POINT_BYTES);
         View {
-            tasks: tasks,
-            doors: doors,
-            starts: starts,
-            pairs: pairs,
-            rules: rules,
-            points: points,
+            tasks,
+            doors,
+            starts,
+            pairs,
+            rules,
+            points,
             at: Places {
                 doors: doors_at,
                 starts: starts_at,
@@ -99,153 +106,142 @@ impl View {
     }
 }
 
-// The number of two bytes, or of four, from byte i on, all within the bytes.
-fn u16_at(s: &[u8], i: usize) -> u16
-    requires { i + 2 ≤ length s.now }
-    ensures { result ≡ number_at 2 s.now i }
+// The N bytes from byte i on, all within the bytes: one load of the machine.
+fn bytes_at<const N: usize>(s: &[u8], i: usize) -> [u8; N]
+    requires { i + N ≤ length s.now }
+    ensures { result ≡ map_below N (λ k. slice_index s.now (i + k)) }
 {
-    s[i] as u16 + s[i + 1] as u16 * 256
+    let mut bytes = [0; N];
+    bytes.copy_from_slice(&s[i..i + N]);
+    bytes
 }
 
-fn u32_at(s: &[u8], i: usize) -> u32
-    requires { i + 4 ≤ length s.now }
-    ensures { result ≡ number_at 4 s.now i }
-{
-    u16_at(s, i) as u32 + u16_at(s, i + 2) as u32 * 65536
-}
+// The fields of a task sheet. Each reader asks that the entry is below its count.
+impl<'a> TaskSheet<'a> {
+    ghost use Rattle.view.specs.Sheets.{sheet_of};
 
-// The number of two bytes, or of four, in entry e of the body at byte `at`, whose entries have `size` bytes, `before` of them before the number.
-fn field2(s: &[u8], at: u32, e: u16, size: u32, before: u16) -> u16
-    requires { at + e * size + before + 2 ≤ length s.now }
-    ensures { result ≡ number_at 2 s.now (at + e * size + before) }
-{
-    u16_at(
-        s,
-        at as usize + e as usize * size as usize + before as usize,
-    )
-}
+    // The N bytes in entry e of the body at byte `at`, whose entries have `size` bytes, `before` of them before those.
+    fn field<const N: usize>(&self, at: u32, e: u16, size: u32, before: u16) -> [u8; N]
+        requires { at + e * size + before + N ≤ length self.now.bytes.now }
+        ensures { result ≡ map_below N (λ k. slice_index self.now.bytes.now (at + e * size + before + k)) }
+    {
+        bytes_at(
+            self.bytes,
+            at as usize + e as usize * size as usize + before as usize,
+        )
+    }
 
-fn field4(s: &[u8], at: u32, e: u16, size: u32, before: u16) -> u32
-    requires { at + e * size + before + 4 ≤ length s.now }
-    ensures { result ≡ number_at 4 s.now (at + e * size + before) }
-{
-    u32_at(
-        s,
-        at as usize + e as usize * size as usize + before as usize,
-    )
-}
+    // Van and goods when all tasks are done.
+    pub fn end_load(&self) -> u16
+        ensures { result ≡ (sheet_of self.now).end_load }
+    {
+        u16::from_le_bytes(bytes_at(self.bytes, 2))
+    }
 
-// Van and goods when all tasks are done.
-pub fn end_load(s: &[u8], v: View) -> u16
-    requires { Viewed s.now v }
-    ensures { result ≡ (decode s.now).end_load }
-{
-    u16_at(s, 2)
-}
+    // Of a task.
+    pub fn change(&self, t: u16) -> i16
+        requires { t < (sheet_of self.now).tasks }
+        ensures { result ≡ (sheet_of self.now).change t }
+    {
+        to_i16(u16::from_le_bytes(self.field(HEAD_BYTES, t, TASK_BYTES, 0)))
+    }
 
-// Of a task.
-pub fn change(s: &[u8], v: View, t: u16) -> i16
-    requires { Viewed s.now v × (t < (decode s.now).tasks) }
-    ensures { result ≡ (decode s.now).change t }
-{
-    to_i16(field2(s, HEAD_BYTES, t, TASK_BYTES, 0))
-}
+    // Of a door.
+    pub fn task(&self, d: u16) -> u16
+        requires { d < (sheet_of self.now).doors }
+        ensures { result ≡ (sheet_of self.now).task d }
+    {
+        u16::from_le_bytes(self.field(self.view.at.doors, d, DOOR_BYTES, 0))
+    }
 
-// Of a door.
-pub fn task(s: &[u8], v: View, d: u16) -> u16
-    requires { Viewed s.now v × (d < (decode s.now).doors) }
-    ensures { result ≡ (decode s.now).task d }
-{
-    field2(s, v.at.doors, d, DOOR_BYTES, 0)
-}
+    pub fn arrive(&self, d: u16) -> u16
+        requires { d < (sheet_of self.now).doors }
+        ensures { result ≡ (sheet_of self.now).arrive d }
+    {
+        u16::from_le_bytes(self.field(self.view.at.doors, d, DOOR_BYTES, 2))
+    }
 
-pub fn arrive(s: &[u8], v: View, d: u16) -> u16
-    requires { Viewed s.now v × (d < (decode s.now).doors) }
-    ensures { result ≡ (decode s.now).arrive d }
-{
-    field2(s, v.at.doors, d, DOOR_BYTES, 2)
-}
+    pub fn depart(&self, d: u16) -> u16
+        requires { d < (sheet_of self.now).doors }
+        ensures { result ≡ (sheet_of self.now).depart d }
+    {
+        u16::from_le_bytes(self.field(self.view.at.doors, d, DOOR_BYTES, 4))
+    }
 
-pub fn depart(s: &[u8], v: View, d: u16) -> u16
-    requires { Viewed s.now v × (d < (decode s.now).doors) }
-    ensures { result ≡ (decode s.now).depart d }
-{
-    field2(s, v.at.doors, d, DOOR_BYTES, 4)
-}
+    pub fn work(&self, d: u16) -> u32
+        requires { d < (sheet_of self.now).doors }
+        ensures { result ≡ (sheet_of self.now).work d }
+    {
+        u32::from_le_bytes(self.field(self.view.at.doors, d, DOOR_BYTES, 6))
+    }
 
-pub fn work(s: &[u8], v: View, d: u16) -> u32
-    requires { Viewed s.now v × (d < (decode s.now).doors) }
-    ensures { result ≡ (decode s.now).work d }
-{
-    field4(s, v.at.doors, d, DOOR_BYTES, 6)
-}
+    // Of a start.
+    pub fn start_point(&self, i: u16) -> u16
+        requires { i < (sheet_of self.now).starts }
+        ensures { result ≡ (sheet_of self.now).start_point i }
+    {
+        u16::from_le_bytes(self.field(self.view.at.starts, i, START_BYTES, 0))
+    }
 
-// Of a start.
-pub fn start_point(s: &[u8], v: View, i: u16) -> u16
-    requires { Viewed s.now v × (i < (decode s.now).starts) }
-    ensures { result ≡ (decode s.now).start_point i }
-{
-    field2(s, v.at.starts, i, START_BYTES, 0)
-}
+    // Of a pair.
+    pub fn sender(&self, i: u16) -> u16
+        requires { i < (sheet_of self.now).pairs }
+        ensures { result ≡ (sheet_of self.now).sender i }
+    {
+        u16::from_le_bytes(self.field(self.view.at.pairs, i, PAIR_BYTES, 0))
+    }
 
-// Of a pair.
-pub fn sender(s: &[u8], v: View, i: u16) -> u16
-    requires { Viewed s.now v × (i < (decode s.now).pairs) }
-    ensures { result ≡ (decode s.now).sender i }
-{
-    field2(s, v.at.pairs, i, PAIR_BYTES, 0)
-}
+    pub fn receiver(&self, i: u16) -> u16
+        requires { i < (sheet_of self.now).pairs }
+        ensures { result ≡ (sheet_of self.now).receiver i }
+    {
+        u16::from_le_bytes(self.field(self.view.at.pairs, i, PAIR_BYTES, 2))
+    }
 
-pub fn receiver(s: &[u8], v: View, i: u16) -> u16
-    requires { Viewed s.now v × (i < (decode s.now).pairs) }
-    ensures { result ≡ (decode s.now).receiver i }
-{
-    field2(s, v.at.pairs, i, PAIR_BYTES, 2)
-}
+    // Of an access rule.
+    pub fn rule_door(&self, i: u16) -> u16
+        requires { i < (sheet_of self.now).rules }
+        ensures { result ≡ (sheet_of self.now).rule_door i }
+    {
+        u16::from_le_bytes(self.field(self.view.at.rules, i, RULE_BYTES, 0))
+    }
 
-// Of an access rule.
-pub fn rule_door(s: &[u8], v: View, i: u16) -> u16
-    requires { Viewed s.now v × (i < (decode s.now).rules) }
-    ensures { result ≡ (decode s.now).rule_door i }
-{
-    field2(s, v.at.rules, i, RULE_BYTES, 0)
-}
+    pub fn watched(&self, i: u16) -> u16
+        requires { i < (sheet_of self.now).rules }
+        ensures { result ≡ (sheet_of self.now).watched i }
+    {
+        u16::from_le_bytes(self.field(self.view.at.rules, i, RULE_BYTES, 2))
+    }
 
-pub fn watched(s: &[u8], v: View, i: u16) -> u16
-    requires { Viewed s.now v × (i < (decode s.now).rules) }
-    ensures { result ≡ (decode s.now).watched i }
-{
-    field2(s, v.at.rules, i, RULE_BYTES, 2)
-}
+    pub fn least_count(&self, i: u16) -> u16
+        requires { i < (sheet_of self.now).rules }
+        ensures { result ≡ (sheet_of self.now).least_count i }
+    {
+        u16::from_le_bytes(self.field(self.view.at.rules, i, RULE_BYTES, 4))
+    }
 
-pub fn least_count(s: &[u8], v: View, i: u16) -> u16
-    requires { Viewed s.now v × (i < (decode s.now).rules) }
-    ensures { result ≡ (decode s.now).least_count i }
-{
-    field2(s, v.at.rules, i, RULE_BYTES, 4)
-}
+    pub fn charge(&self, i: u16) -> u32
+        requires { i < (sheet_of self.now).rules }
+        ensures { result ≡ (sheet_of self.now).charge i }
+    {
+        u32::from_le_bytes(self.field(self.view.at.rules, i, RULE_BYTES, 6))
+    }
 
-pub fn charge(s: &[u8], v: View, i: u16) -> u32
-    requires { Viewed s.now v × (i < (decode s.now).rules) }
-    ensures { result ≡ (decode s.now).charge i }
-{
-    field4(s, v.at.rules, i, RULE_BYTES, 6)
-}
+    // Of a point.
+    pub fn end_cost(&self, p: u16) -> u32
+        requires { p < (sheet_of self.now).points }
+        ensures { result ≡ (sheet_of self.now).end_cost p }
+    {
+        u32::from_le_bytes(self.field(self.view.at.points, p, POINT_BYTES, 0))
+    }
 
-// Of a point.
-pub fn end_cost(s: &[u8], v: View, p: u16) -> u32
-    requires { Viewed s.now v × (p < (decode s.now).points) }
-    ensures { result ≡ (decode s.now).end_cost p }
-{
-    field4(s, v.at.points, p, POINT_BYTES, 0)
-}
-
-// From one point to another. As wide as a distance may become.
-pub fn distance(s: &[u8], v: View, p: u16, q: u16) -> u32
-    requires { Viewed s.now v × (p < (decode s.now).points) × (q < (decode s.now).points) }
-    ensures { result ≡ (decode s.now).distance p q }
-{
-    let at = v.at.distances as usize;
-    let e = p as usize * v.points as usize + q as usize;
-    u16_at(s, at + e * DISTANCE_BYTES as usize) as u32
+    // From one point to another. As wide as a distance may become.
+    pub fn distance(&self, p: u16, q: u16) -> u32
+        requires { (p < (sheet_of self.now).points) × (q < (sheet_of self.now).points) }
+        ensures { result ≡ (sheet_of self.now).distance p q }
+    {
+        let at = self.view.at.distances as usize;
+        let e = p as usize * self.view.points as usize + q as usize;
+        u16::from_le_bytes(bytes_at(self.bytes, at + e * DISTANCE_BYTES as usize)) as u32
+    }
 }
