@@ -40,10 +40,11 @@ module _ (S : Sheet) (R : InRange S) (few : S.tasks ≤ max_tasks) (K : ℕ) whe
   in_range : (i : ℕ) → i < S.pairs → S.sender i < mask_bits
   in_range i l = omega (arith, R.sender i l, few)
 
-  by_leads : closed_by (map_below max_tasks (senders_of S)) S.tasks K ≡ all_below S.tasks holds
+  -- with what the first m tasks, all of the sheet among them, wait for at hand
+  by_leads : (m : ℕ) → S.tasks ≤ m → closed_by (map_below m (senders_of S)) S.tasks K ≡ all_below S.tasks holds
   unfolding senders_of
-  by_leads = all_cong S.tasks _ holds (λ t l. ap (λ b. member K t || not b)
-      (ap (λ (x : ℕ). meets mask_bits x K) (map_below_at max_tasks (senders_of S) t 0 (omega arith)) ∙ senders_meet S in_range K t S.pairs (omega arith)))
+  by_leads m h = all_cong S.tasks _ holds (λ t l. ap (λ b. member K t || not b)
+      (ap (λ (x : ℕ). meets mask_bits x K) (map_below_at m (senders_of S) t 0 (omega arith)) ∙ senders_meet S in_range K t S.pairs (omega arith)))
 
   -- pair by pair and task by task it is the same
   same : all_below S.tasks holds ≡ all_below S.pairs (keeps_receiver S K)
@@ -59,8 +60,8 @@ module _ (S : Sheet) (R : InRange S) (few : S.tasks ≤ max_tasks) (K : ℕ) whe
       absurd (not_both (rw e at r) w)) (λ v. v)))))))
 
   -- so a list that is not empty is essential where it is closed
-  pub closed_is : (K ≡ 0 → ⊥) → closed_by (map_below max_tasks (senders_of S)) S.tasks K ≡ essential S K
-  closed_is some = by_leads ∙ same ∙ sym (some_open S K some)
+  pub closed_is : (m : ℕ) → S.tasks ≤ m → (K ≡ 0 → ⊥) → closed_by (map_below m (senders_of S)) S.tasks K ≡ essential S K
+  closed_is m h some = by_leads m h ∙ same ∙ sym (some_open S K some)
 
 -- task t, as the code finds it
 pub holds_is : {a b : Bool} (K t W : ℕ) → a ≡ member K t → b ≡ meets mask_bits W K → (member K t || not (meets mask_bits W K)) ≡ not (not a && b)

@@ -41,9 +41,6 @@ pub record Seen (S : Sheet) (seen d : ℕ) : Type 0 where
   pub within : d ≤ S.doors
   pub is : seen ≡ served_below S d
 
-pub none_seen : (S : Sheet) → Seen S 0 0
-none_seen S = record { within = omega arith; is = refl }
-
 module _ {S : Sheet} {seen d : ℕ} (h : Seen S seen d) where
   pub next_seen : {x r : ℕ} → d < S.doors → x ≡ S.task d → r ≡ with_in mask_bits seen x → Seen S r (d + 1)
   next_seen l e q = record { within = omega arith; is = rw (add-one, q, e, h.is) }

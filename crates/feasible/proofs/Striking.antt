@@ -1,12 +1,12 @@
 -- Striking off with what each task waits for at hand leaves what striking off leaves: of the tasks of K, those are free that wait for
 -- none of K. Assumes nothing.
 use Rattle.model.proofs.Basics.{◌≡◌, refl, sym, ap, ◌∙◌, ⊎_elim, Bool, true, false, cond, not, ◌&&◌, ◌||◌, List, ℕ, zero, suc, ◌+◌, ◌≤◌}
-use Rattle.model.proofs.Basics.{◌<◌, add-one, arith, eqb, get_or, eqb-true, eqb-false, eq-eqb, ne_eqb}
-use Rattle.model.specs.{all_below, any_below, map_below, member, with, without, max_tasks, pair_within, mask_bits, meets, senders_below}
+use Rattle.model.proofs.Basics.{◌<◌, add-one, arith, eqb, length, get_or, eqb-true, eqb-false, eq-eqb, ne_eqb}
+use Rattle.model.specs.{all_below, any_below, map_below, member, with, without, pair_within, mask_bits, meets, senders_below}
 use Rattle.model.specs.Sheet.{Sheet}
 use Rattle.model.specs.{senders_of, is_free, can_come_first, strike_below, strike_off}
 use Rattle.model.proofs.Tools.Tests.{tested, same_test, and_left, and_right, and_both, or-true, none_below, any_true, one_passes}
-use Rattle.model.proofs.Tools.Folds.{map_below_at}
+use Rattle.model.proofs.Tools.Folds.{length_map_below, map_below_at}
 use Rattle.model.proofs.TaskLists.Masks.{bit_none, not_member_bit, without_none, member_with, with_in_lem}
 use native.Mathlib.Decide.{le_ind}
 use Rattle.feasible.specs.Method.{strike_by, pass_by}
@@ -110,11 +110,17 @@ strikes_none W t = rw (without_none 0 t (bit_none t)) (alike (meets mask_bits W 
 pub empty_passed : (ws : List ℕ) (K m n : ℕ) → m ≤ n → pass_by ws m K ≡ 0 → pass_by ws n K ≡ 0
 empty_passed ws K m n l h = le_ind (λ (k : ℕ). pass_by ws k K ≡ 0) h (λ k a e. rw e (strikes_none (get_or ws k 0) k)) n l
 
-pub pass_is : (S : Sheet) → ((i : ℕ) → i < S.pairs → S.sender i < mask_bits) → (K n : ℕ) → n ≤ max_tasks
-    → pass_by (map_below max_tasks (senders_of S)) n K ≡ strike_below S n K
-pass_is S R K zero l = refl
-pass_is S R K (suc n) l =
-    rw (pass_is S R K n (omega arith), map_below_at max_tasks (senders_of S) n 0 (omega arith)) (strike_is S R (strike_below S n K) n)
+-- with what the first m tasks wait for at hand
+module _ (S : Sheet) (R : (i : ℕ) → i < S.pairs → S.sender i < mask_bits) (K m : ℕ) where
+  -- over the first n of them
+  pub pass_is : (n : ℕ) → n ≤ m → pass_by (map_below m (senders_of S)) n K ≡ strike_below S n K
+  pass_is zero l = refl
+  pass_is (suc n) l =
+      rw (pass_is n (omega arith), map_below_at m (senders_of S) n 0 (omega arith)) (strike_is S R (strike_below S n K) n)
+
+  -- over all that is at hand
+  pub slice_passed : {ws : List ℕ} → ws ≡ map_below m (senders_of S) → pass_by ws (length ws) K ≡ strike_below S m K
+  slice_passed e = rw (e, length_map_below m (senders_of S)) (pass_is m (omega arith))
 
 -- ---- the passes
 

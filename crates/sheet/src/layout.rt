@@ -49,15 +49,9 @@ fn wrong_entries(s: &[u8], i: u16) -> bool
 pub(crate) fn some_wrong_entries(s: &[u8]) -> bool
     ensures { result ≡ some_wrong_entries (layout_of s.now) s.now }
 {
-    let mut i: u16 = 0;
-    while i < DISTANCES_BODY {
-        if wrong_entries(s, i) {
-            return true;
-        }
-        i = i + 1;
-    }
     let points = entries(s, POINTS_BODY) as u32;
-    entries(s, DISTANCES_BODY) as u32 != points * points
+    (0..DISTANCES_BODY).any(|i| wrong_entries(s, i))
+        || entries(s, DISTANCES_BODY) as u32 != points * points
 }
 
 // The bytes of an entry of body i, by the layout of the sheet. There is one, whatever the sheet.
@@ -81,13 +75,11 @@ pub(crate) fn wrong_places(s: &[u8]) -> bool
     ensures { result ≡ wrong_places (layout_of s.now) s.now }
 {
     let mut at = view::HEAD_BYTES as usize;
-    let mut i: u16 = 0;
-    while i < BODIES {
+    for i in 0..BODIES {
         if wrong_line(s, i, at) {
             return true;
         }
-        at = at + entries(s, i) as usize * entry_bytes(s, i) as usize;
-        i = i + 1;
+        at += entries(s, i) as usize * entry_bytes(s, i) as usize;
     }
     s.len() != at
 }

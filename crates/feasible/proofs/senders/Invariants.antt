@@ -1,11 +1,7 @@
 -- The array has, for each task, its senders in the pairs so far. Assumes nothing.
-use Rattle.model.proofs.Basics.{◌-◌, ◌≤◌}
-use Rattle.model.specs.{decode}
+use Rattle.view.specs.Sheets.{sheet_of}
 use Rattle.feasible.proofs.Waiting.{Waiting}
 use Rattle.feasible.proofs.senders.Given as goal
 
 abbrev pub invariant-loop-i : goal.invariant-loop-i
-invariant-loop-i l = (l.i ≤ l.pairs) × Waiting (decode l.s) l.senders l.i
-
-abbrev pub decreases-loop-i : goal.decreases-loop-i
-decreases-loop-i l = l.pairs - l.i
+invariant-loop-i l = Waiting (sheet_of l.sheet) l.senders l.i

@@ -1,18 +1,15 @@
--- The tasks of the doors so far are seen, and every task so far has a door. The outer loop is left before its end only where every door
--- was looked at and the task in hand was not seen. Assumes nothing.
-use Rattle.model.proofs.Basics.{◌≡◌, false, ◌-◌, ◌≤◌}
-use Rattle.model.specs.{any_below, decode, lacks_door}
+-- The tasks of the doors so far are seen, and every task so far has a door. Assumes nothing.
+use Rattle.model.proofs.Basics.{◌≡◌, false, ◌-◌}
+use Rattle.model.specs.{any_below, lacks_door}
+use Rattle.view.specs.Sheets.{sheet_of}
 use Rattle.feasible.proofs.Served.{Seen}
 use Rattle.feasible.proofs.some_lacks_door.Given as goal
 
-abbrev pub invariant-loop-v : goal.invariant-loop-v
-invariant-loop-v l = Seen (decode l.s) l.seen l.d
+abbrev pub invariant-loop-t : goal.invariant-loop-t
+invariant-loop-t l = Seen (sheet_of l.sheet) l.seen l.doors.start × (any_below l.t (lacks_door (sheet_of l.sheet)) ≡ false) × (l.doors.end ≡ l.sheet.view.doors)
 
-abbrev pub decreases-loop-v : goal.decreases-loop-v
-decreases-loop-v l = l.doors - l.d
+abbrev pub invariant-loop-doors : goal.invariant-loop-doors
+invariant-loop-doors l = Seen (sheet_of l.sheet) l.seen l.doors.start × (l.doors.end ≡ l.sheet.view.doors)
 
-abbrev pub invariant-tasks : goal.invariant-tasks
-invariant-tasks l = (l.t ≤ l.tasks) × Seen (decode l.s) l.seen l.d × (any_below l.t (lacks_door (decode l.s)) ≡ false)
-
-abbrev pub decreases-tasks : goal.decreases-tasks
-decreases-tasks l = l.tasks - l.t
+abbrev pub decreases-loop-doors : goal.decreases-loop-doors
+decreases-loop-doors l = l.sheet.view.doors - l.doors.start

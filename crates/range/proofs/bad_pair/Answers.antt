@@ -8,10 +8,10 @@ use Rattle.range.proofs.bad_pair.Goals as goal
 pub returns-then-tasks-sender : goal.returns-then-tasks-sender
 unfolding bad_pair
 returns-then-tasks-sender c =
-    rw (← tasks_are c.requires.0, ← c.sender.ensures, le-leb _ _ c.if-tasks-sender.true)
+    rw (← tasks_are c.args.sheet.now.viewed, ← c.sender.ensures, le-leb _ _ c.if-tasks-sender.true)
 
 -- it is not: the receiver decides
 pub returns-else-tasks-sender : goal.returns-else-tasks-sender
 unfolding bad_pair
 returns-else-tasks-sender c =
-    rw (← tasks_are c.requires.0, ← c.sender.ensures, ← c.receiver.ensures, lt-leb _ _ c.if-tasks-sender.false)
+    rw (← tasks_are c.args.sheet.now.viewed, ← c.sender.ensures, ← c.receiver.ensures, lt-leb _ _ c.if-tasks-sender.false)

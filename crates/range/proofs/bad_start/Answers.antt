@@ -5,4 +5,4 @@ use Rattle.range.proofs.bad_start.Goals as goal
 
 pub returns : goal.returns
 unfolding bad_start
-returns c = rw (c.start_point.ensures, points_are c.requires.0)
+returns c = rw (c.start_point.ensures, points_are c.args.sheet.now.viewed)

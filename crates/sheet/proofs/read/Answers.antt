@@ -1,7 +1,12 @@
 -- Each of 10 to 13 that did not apply is one of the definition's chain, and the first that applies is its answer; past them the bodies
 -- decide. Assumes nothing.
-use Rattle.model.proofs.Basics.{refl, sym, ◌∙◌}
-use Rattle.model.specs.{sheet_tests, unless_fault, read_sheet}
+use Rattle.std.proofs.lemmas.Result.{err_from_is_err_and}
+use Rattle.model.proofs.Basics.{refl, sym, ap, ◌∙◌}
+use Rattle.model.proofs.Tools.Elements.{are_bytes_lem}
+use Rattle.model.specs.{status, sheet_tests, unless_fault, read_sheet}
+use Rattle.sheet.specs.Layouts.{LaidOut}
+use Rattle.sheet.proofs.Laid.{viewed}
+use Rattle.sheet.proofs.read.Goals.{Else-wrong_places}
 use Rattle.sheet.proofs.read.Goals as goal
 
 -- 10 applies
@@ -10,7 +15,8 @@ unfolding sheet_tests unless_fault read_sheet
 returns-then-too_short c =
     record {
       answer = rw (sym c.too_short.ensures ∙ c.if-too_short.true);
-      view = refl;
+      bytes = tt;
+      view = tt;
     }
 
 -- 11 applies
@@ -22,7 +28,8 @@ returns-then-wrong_kind c =
         sym c.too_short.ensures ∙ c.if-too_short.false,
         sym c.wrong_kind.ensures ∙ c.if-wrong_kind.true,
       );
-      view = refl;
+      bytes = tt;
+      view = tt;
     }
 
 -- 12 applies
@@ -35,7 +42,8 @@ returns-then-some_wrong_entries c =
         sym c.wrong_kind.ensures ∙ c.if-wrong_kind.false,
         sym c.some_wrong_entries.ensures ∙ c.if-some_wrong_entries.true,
       );
-      view = refl;
+      bytes = tt;
+      view = tt;
     }
 
 -- 13 applies
@@ -49,16 +57,40 @@ returns-then-wrong_places c =
         sym c.some_wrong_entries.ensures ∙ c.if-some_wrong_entries.false,
         sym c.wrong_places.ensures ∙ c.if-wrong_places.true,
       );
-      view = refl;
+      bytes = tt;
+      view = tt;
     }
 
-pub read_bodies-requires : goal.read_bodies-requires
-read_bodies-requires c = (
-  record {
-    long = sym c.too_short.ensures ∙ c.if-too_short.false;
-    kind = sym c.wrong_kind.ensures ∙ c.if-wrong_kind.false;
-    entries = sym c.some_wrong_entries.ensures ∙ c.if-some_wrong_entries.false;
-    places = sym c.wrong_places.ensures ∙ c.if-wrong_places.false;
-  },
-  c.of.ensures,
-)
+-- ---- past them the layout holds
+
+laid : (c : Else-wrong_places) → LaidOut c.args.s.now
+laid c =
+    record {
+      long = sym c.too_short.ensures ∙ c.if-too_short.false;
+      kind = sym c.wrong_kind.ensures ∙ c.if-wrong_kind.false;
+      entries = sym c.some_wrong_entries.ensures ∙ c.if-some_wrong_entries.false;
+      places = sym c.wrong_places.ensures ∙ c.if-wrong_places.false;
+    }
+
+pub invariant_of-sheet : goal.invariant_of-sheet
+invariant_of-sheet c =
+    record { viewed = viewed (laid (goal.at.invariant_of-sheet c).Else-wrong_places) c.of-view.ensures }
+
+pub test_bodies-requires : goal.test_bodies-requires
+test_bodies-requires c =
+    laid (goal.at.test_bodies-requires c).Else-wrong_places
+
+-- one of 14 to 17 applies
+pub returns-in_err-test_bodies : goal.returns-in_err-test_bodies
+returns-in_err-test_bodies c =
+    let p = err_from_is_err_and c.from_residual.result c.from_residual.ensures.1 in
+    rw (p.1, p.2) (record { answer = c.in_err-test_bodies.ensures; bytes = tt; view = tt })
+
+pub invariant_of-result : goal.invariant_of-result
+invariant_of-result c =
+    record { fit = are_bytes_lem c.args.s.now c.type_inv.s; reads = ap status (sym c.in_ok-test_bodies.ensures) }
+
+-- none does
+pub returns : goal.returns
+returns c =
+    record { answer = c.in_ok-test_bodies.ensures; bytes = refl; view = c.of-view.ensures }

@@ -1,16 +1,16 @@
 -- Each test that did not apply is one of the definition's chain, and the first that applies is its answer. No more
 -- tasks than a mask has bits, which 15 and 16 ask for, or than an array has places, which 17 does, is what 12 has tested; 17 is decided by
 -- striking off because 14 has tested the pairs. Assumes nothing.
-use Rattle.model.proofs.Basics.{◌≡◌, refl, sym, ap₂, ◌∙◌, Bool, false, List, ℕ, arith}
+use Rattle.model.proofs.Basics.{◌≡◌, sym, ap₂, ◌∙◌, Bool, false, List, ℕ, arith}
 use Rattle.model.specs.{no_order, layout_of, decode, out_of_range, some_lacks_door, sheet_tests, read_sheet}
 use Rattle.model.specs.{InRange, something_left}
 use Rattle.model.proofs.Theory.NoOrder.{something_left_lem}
 use Rattle.model.proofs.Bytes.Ranges.{in_range}
 use Rattle.view.proofs.Counted.{tasks_are, points_are}
 use Rattle.sheet.specs.Layouts.{LaidOut}
-use Rattle.sheet.proofs.Laid.{counts, viewed}
+use Rattle.sheet.proofs.Laid.{counts}
 use Rattle.sheet.proofs.Remaining.{answer, remaining, laid_out}
-use Rattle.sheet.proofs.read_bodies.Goals as goal
+use Rattle.sheet.proofs.test_bodies.Goals as goal
 
 -- ---- what the tests that remain answer, where those before did not apply
 
@@ -37,71 +37,53 @@ module _ {b : List ℕ} (h : LaidOut b) (ranges : out_of_range (layout_of b) (de
 
 -- ---- the answers
 
-pub out_of_range-requires : goal.out_of_range-requires
-out_of_range-requires c = viewed c.requires.0 c.requires.1
-
 -- 14 applies
 pub returns-then-out_of_range : goal.returns-then-out_of_range
 unfolding sheet_tests
-returns-then-out_of_range c = record {
-  answer = sym (laid_out _ c.requires.0 ∙ rw (sym c.out_of_range.ensures ∙ c.if-out_of_range.true));
-  view = refl;
-}
+returns-then-out_of_range c = sym (laid_out _ c.requires ∙ rw (sym c.out_of_range.ensures ∙ c.if-out_of_range.true))
 
 pub some_lacks_door-lacking-requires : goal.some_lacks_door-lacking-requires
-some_lacks_door-lacking-requires c = let h = c.requires.0 in (viewed h c.requires.1, omega (arith, (counts h).tasks))
+some_lacks_door-lacking-requires c = let h = c.requires in omega (arith, (counts h).tasks)
 
 pub something_left-left-requires : goal.something_left-left-requires
 something_left-left-requires c =
-    let h = c.requires.0 in
-    (viewed h c.requires.1, (counts h).tasks, inside h (sym c.out_of_range.ensures ∙ c.if-out_of_range.false))
+    let h = c.requires in
+    ((counts h).tasks, inside h (sym c.out_of_range.ensures ∙ c.if-out_of_range.false))
 
 pub too_light-light-requires : goal.too_light-light-requires
 too_light-light-requires c =
-    let h = c.requires.0 in
-    (viewed h c.requires.1, (counts h).tasks, inside h (sym c.out_of_range.ensures ∙ c.if-out_of_range.false))
+    let h = c.requires in
+    ((counts h).tasks, inside h (sym c.out_of_range.ensures ∙ c.if-out_of_range.false))
 
 -- 15 applies
 pub returns-then-lacking : goal.returns-then-lacking
 unfolding sheet_tests
 returns-then-lacking c =
-    let r = sym c.out_of_range.ensures ∙ c.if-out_of_range.false in record {
-      answer = sym (remaining5 c.requires.0 r ∙ rw (sym c.some_lacks_door-lacking.ensures ∙ c.if-lacking.true));
-      view = refl;
-    }
+    let r = sym c.out_of_range.ensures ∙ c.if-out_of_range.false in sym (remaining5 c.requires r ∙ rw (sym c.some_lacks_door-lacking.ensures ∙ c.if-lacking.true))
 
 -- 17 applies
 pub returns-then-left : goal.returns-then-left
 unfolding sheet_tests
 returns-then-left c =
-    let h = c.requires.0 in
+    let h = c.requires in
     let r = sym c.out_of_range.ensures ∙ c.if-out_of_range.false in
-    let d = sym c.some_lacks_door-lacking.ensures ∙ c.if-lacking.false in record {
-      answer = sym (remaining6 h r d ∙ rw (order h r c.something_left-left.ensures ∙ c.if-left.true));
-      view = refl;
-    }
+    let d = sym c.some_lacks_door-lacking.ensures ∙ c.if-lacking.false in sym (remaining6 h r d ∙ rw (order h r c.something_left-left.ensures ∙ c.if-left.true))
 
 -- 16 applies
 pub returns-then-light : goal.returns-then-light
 unfolding sheet_tests
 returns-then-light c =
-    let h = c.requires.0 in
+    let h = c.requires in
     let r = sym c.out_of_range.ensures ∙ c.if-out_of_range.false in
     let d = sym c.some_lacks_door-lacking.ensures ∙ c.if-lacking.false in
-    let o = order h r c.something_left-left.ensures ∙ c.if-left.false in record {
-      answer = sym (remaining7 h r d o ∙ rw (sym c.too_light-light.ensures ∙ c.if-light.true));
-      view = refl;
-    }
+    let o = order h r c.something_left-left.ensures ∙ c.if-left.false in sym (remaining7 h r d o ∙ rw (sym c.too_light-light.ensures ∙ c.if-light.true))
 
 -- none applies, and the view is handed on
 pub returns : goal.returns
 unfolding sheet_tests
 returns c =
-    let h = c.requires.0 in
+    let h = c.requires in
     let r = sym c.out_of_range.ensures ∙ c.if-out_of_range.false in
     let d = sym c.some_lacks_door-lacking.ensures ∙ c.if-lacking.false in
     let o = order h r c.something_left-left.ensures ∙ c.if-left.false in
-    let v = viewed h c.requires.1 in record {
-      answer = ap₂ answer (tasks_are v) (points_are v) ∙ sym (remaining7 h r d o ∙ rw (sym c.too_light-light.ensures ∙ c.if-light.false));
-      view = c.requires.1;
-    }
+    let v = c.args.sheet.now.viewed in ap₂ answer (tasks_are v) (points_are v) ∙ sym (remaining7 h r d o ∙ rw (sym c.too_light-light.ensures ∙ c.if-light.false))
