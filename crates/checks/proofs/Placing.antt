@@ -1,7 +1,7 @@
 -- Tasks done so far as a list: joining a task that is not in it counts it once more. Where each task is first done, as an array filled
 -- from the last task to the first: one task more changes its own place alone. Assumes nothing.
 use Rattle.model.proofs.Basics.{◌≡◌, refl, sym, ap, ◌∙◌, ◌≢◌, Bool, true, false, cond, List, map, ℕ, suc, ◌+◌, ◌≤◌, ◌<◌}
-use Rattle.model.proofs.Basics.{zero-add, add-zero, arith, eqb, ltb, length, get_or, take, drop, set, replicate, drop_of_length-le, drop-cons}
+use Rattle.model.proofs.Basics.{add-zero, arith, eqb, ltb, length, get_or, take, drop, set, replicate, drop_of_length-le, drop-cons}
 use Rattle.model.proofs.Basics.{length-map, take_at, drop-length, eqb-true, eqb-false, eq-eqb, ne_eqb, ltb-true, lt-ltb, le-ltb}
 use Rattle.model.specs.{map_below, all_in, count_of, index_of, bit, member, with, mask_bits, with_in, max_tasks, overwrite, done_twice}
 use Rattle.model.specs.Sheet.{Sheet}
@@ -10,7 +10,6 @@ use Rattle.model.proofs.Tools.Elements.{in_at}
 use Rattle.model.proofs.Tools.Walks.{from}
 use Rattle.model.proofs.Tools.Arrays.{Filled, map_places, map_set}
 use Rattle.model.proofs.TaskLists.Masks.{bit_lt, bit_none, member_bit, not_member_bit, with_same, with_other, with_in_lem}
-use mathlib.Core.Path.{fun_ext}
 
 -- ---- the tasks done before place i, as a list
 
@@ -90,11 +89,6 @@ module _ {ts at : List ℕ} {i : ℕ} (h : PlacedFrom ts at i) (below : all_in (
     places = q ∙ rw (h.places, e) (ap (set (map_below max_tasks (λ t. suc j + index_of t (drop (suc j) ts))) (get_or ts j 0)) (sym here)
         ∙ map_set max_tasks (get_or ts j 0) (λ t. suc j + index_of t (drop (suc j) ts)) (λ t. j + index_of t (drop j ts)) x_in other);
   }
-
-pub all_placed : {ts at : List ℕ} {i : ℕ} → PlacedFrom ts at i → i ≤ 0 → at ≡ map_below max_tasks (λ t. index_of t ts)
-all_placed {ts} {at} {i} h l =
-    let z : i ≡ 0 = omega arith in
-    rw z at h.places ∙ ap (map_below max_tasks) (fun_ext (λ (t : ℕ). zero-add (index_of t ts)))
 
 -- ---- an array whose front was filled with g of each element of xs
 

@@ -1,5 +1,5 @@
 -- The access rules in the code: the sum of what those below i cost is part of the sum of all. Assumes nothing.
-use Rattle.model.proofs.Basics.{◌≡◌, refl, ap, ap₂, ◌∙◌, List, ℕ, ◌+◌, ◌≤◌, ◌<◌, le_refl, add-one, arith, get_or}
+use Rattle.model.proofs.Basics.{◌≡◌, ap, ap₂, ◌∙◌, List, ℕ, ◌+◌, ◌≤◌, ◌<◌, le_refl, add-one, arith, get_or}
 use Rattle.model.specs.{sum_below, rule_charge}
 use Rattle.model.specs.Sheet.{Sheet}
 use native.Mathlib.Decide.{le_ind}
@@ -12,9 +12,6 @@ charged S lists j = rule_charge S (get_or lists (S.rule_door j) 0) j
 -- the sum in the code, of what the rules below i cost
 pub record ChargedBelow (S : Sheet) (lists : List ℕ) (i sum : ℕ) : Type 0 where
   pub is : sum ≡ sum_below i (charged S lists)
-
-pub no_rule : (S : Sheet) (lists : List ℕ) → ChargedBelow S lists 0 0
-no_rule S lists = record { is = refl }
 
 -- it is part of the whole
 sum_part : (f : ℕ → ℕ) (m n : ℕ) → m ≤ n → sum_below m f ≤ sum_below n f

@@ -23,9 +23,6 @@ unfolding map_below
 none_listed ds ts A = record { within = omega arith; are = rw drop-length refl; still_open = rw (← A.size, drop-length) }
 
 module _ {ds ts lists : List ℕ} {later i : ℕ} (h : ListedFrom ds ts lists later i) where
-  pub all_listed : i ≤ 0 → lists ≡ map_below max_doors (open_by ds ts)
-  all_listed l = let z : i ≡ 0 = omega arith in h.are ∙ ap (λ (n : ℕ). map_below max_doors (open_by (drop n ds) (drop n ts))) z
-
   -- door j, with k open
   pub next_listed : Listable ds ts → (j : ℕ) → i ≡ suc j → {k : ℕ} {new : List ℕ} → k ≡ with_in mask_bits later (get_or ts j 0)
       → new ≡ set lists (get_or ds j 0) k → ListedFrom ds ts new k j

@@ -13,8 +13,6 @@ use Rattle.model.proofs.Theory.Charges.{cost_parts, charges_by_rule}
 use Rattle.model.proofs.Theory.Bounds.{doors_once, route_fits}
 use Rattle.model.proofs.Theory.OpenAlong.{solution_loads}
 use Rattle.model.proofs.Theory.Solutions.{door_in_lem, SolutionTests, solution}
-use Rattle.view.specs.declared.View.{View}
-use Rattle.view.specs.Views.{Viewed}
 use Rattle.route.specs.Routes.{open_at, open_by, charges_with, Listable, ChargeableWith, Costable}
 use Rattle.route.proofs.Listing.{open_on_lem}
 use Rattle.route.proofs.Steps.{task_in}
@@ -39,51 +37,49 @@ module _ (S : Sheet) (R : InRange S) where
 
 -- ---- the whole
 
-module _ {b : List ℕ} {v : View} {p : ℕ} {ds ts : List ℕ} (C : Costable b v p ds ts) where
+module _ {S : Sheet} {p : ℕ} {ds ts : List ℕ} (C : Costable S p ds ts) where
   pub listable : Listable ds ts
   listable = record {
-    size = rw C.tasks_are (length-map ds (decode b).task);
-    door = λ i l. omega (arith, door_in_lem (decode b) ds C.stands_in_sheet i l, C.doors);
+    size = rw C.tasks_are (length-map ds S.task);
+    door = λ i l. omega (arith, door_in_lem S ds C.stands_in_sheet i l, C.doors);
     task = λ i l. omega (arith, task_in C i l, C.tasks);
   }
 
   -- `lists` is what the code has for the lists that are open at the doors
   module _ {lists : List ℕ} (e : lists ≡ map_below max_doors (open_by ds ts)) where
-    place : (i : ℕ) → i < (decode b).rules → (decode b).rule_door i < max_doors
+    place : (i : ℕ) → i < S.rules → S.rule_door i < max_doors
     place i l = omega (arith, C.ranges.rule_door i l, C.doors)
 
-    list_is : (i : ℕ) → i < (decode b).rules → get_or lists ((decode b).rule_door i) 0 ≡ open_on (decode b) ds ((decode b).rule_door i)
-    list_is i l = rw (e, map_below_at max_doors (open_by ds ts) ((decode b).rule_door i) 0 (place i l), C.tasks_are)
-        (open_on_lem (decode b) ds ((decode b).rule_door i))
+    list_is : (i : ℕ) → i < S.rules → get_or lists (S.rule_door i) 0 ≡ open_on S ds (S.rule_door i)
+    list_is i l = rw (e, map_below_at max_doors (open_by ds ts) (S.rule_door i) 0 (place i l), C.tasks_are)
+        (open_on_lem S ds (S.rule_door i))
 
-    charges_are : charges_with (decode b) lists ≡ charges_on (decode b) ds
+    charges_are : charges_with S lists ≡ charges_on S ds
     unfolding charges_with
     charges_are =
-        sum_cong (decode b).rules _ _ (λ i l. ap (λ (K : ℕ). rule_charge (decode b) K i) (list_is i l))
-        ∙ sym (charges_by_rule (decode b) C.least_counts ds (doors_once (decode b) ds (λ t. rw (← C.tasks_are) (C.once t))))
+        sum_cong S.rules _ _ (λ i l. ap (λ (K : ℕ). rule_charge S K i) (list_is i l))
+        ∙ sym (charges_by_rule S C.least_counts ds (doors_once S ds (λ t. rw (← C.tasks_are) (C.once t))))
 
-    pub chargeable : ChargeableWith b v lists
+    pub chargeable : ChargeableWith S lists
     chargeable = record {
-      view = C.view;
       door = λ i l. rw (e, length_map_below) (place i l);
-      list = λ i l. rw (list_is i l) (on_listed (decode b) C.ranges ((decode b).rule_door i) ds C.stands_in_sheet);
-      fits = omega (arith, charges_are, cost_parts (decode b) p ds, C.fits);
+      list = λ i l. rw (list_is i l) (on_listed S C.ranges (S.rule_door i) ds C.stands_in_sheet);
+      fits = omega (arith, charges_are, cost_parts S p ds, C.fits);
     }
 
-    pub route_is : {x y : ℕ} → x ≡ legs (decode b) p ds → y ≡ charges_with (decode b) lists → x + y ≡ cost (decode b) p ds
-    route_is hx hy = ap₂ ◌+◌ hx (hy ∙ charges_are) ∙ sym (cost_parts (decode b) p ds)
+    pub route_is : {x y : ℕ} → x ≡ legs S p ds → y ≡ charges_with S lists → x + y ≡ cost S p ds
+    route_is hx hy = ap₂ ◌+◌ hx (hy ∙ charges_are) ∙ sym (cost_parts S p ds)
 
 -- ---- a solution
 
 -- a solution of a sheet that 12 and 14 do not refuse, and of which no essential list has a load below zero, can be costed from its start
-pub costable : {b : List ℕ} {v : View} → are_bytes b ≡ true → Viewed b v → CountsWithin (decode b) → InRange (decode b)
+pub costable : (b : List ℕ) → are_bytes b ≡ true → CountsWithin (decode b) → InRange (decode b)
     → LeastCounts (layout_of b) (decode b) → LoadsHold (decode b) → (s : ℕ) {p : ℕ} {ds ts : List ℕ}
-    → is_solution (decode b) s ds ≡ true → p ≡ (decode b).start_point s → ts ≡ map (decode b).task ds → Costable b v p ds ts
+    → is_solution (decode b) s ds ≡ true → p ≡ (decode b).start_point s → ts ≡ map (decode b).task ds → Costable (decode b) p ds ts
 unfolding open_at round_cost
-costable {b} bytes view n R c h s {p} {ds} {ts} e q t =
+costable b bytes n R c h s {p} {ds} {ts} e q t =
     let x : SolutionTests (decode b) s ds = solution (decode b) s ds e in
     record {
-      view = view;
       ranges = R;
       least_counts = λ i l. (c i l).0;
       tasks = omega (arith, n.tasks);

@@ -8,10 +8,8 @@ use Rattle.model.specs.Method.{mask_bits}
 use Rattle.model.specs.Sheet.{Sheet}
 use Rattle.model.specs.Cost.{load, rule_charge, cost}
 use Rattle.model.specs.Plans.{in_sheet}
-use Rattle.model.specs.SheetLayout.{max_doors, decode}
+use Rattle.model.specs.SheetLayout.{max_doors}
 use Rattle.model.specs.Passing.{InRange}
-use Rattle.view.specs.declared.View.{View}
-use Rattle.view.specs.Views.{Viewed}
 
 -- ---- step by step
 
@@ -46,23 +44,21 @@ pub record Listable (ds ts : List ℕ) : Type 0 where
   pub task : (i : ℕ) → i < length ds → get_or ts i 0 < mask_bits
 
 -- what charging asks: for the door of each rule a list of the sheet's tasks, and a sum that fits
-pub record ChargeableWith (b : List ℕ) (v : View) (lists : List ℕ) : Type 0 where
-  pub view : Viewed b v
-  pub door : (i : ℕ) → i < (decode b).rules → (decode b).rule_door i < length lists
-  pub list : (i : ℕ) → i < (decode b).rules → get_or lists ((decode b).rule_door i) 0 < 2 ^ (decode b).tasks
-  pub fits : charges_with (decode b) lists < 2 ^ 64
+pub record ChargeableWith (S : Sheet) (lists : List ℕ) : Type 0 where
+  pub door : (i : ℕ) → i < S.rules → S.rule_door i < length lists
+  pub list : (i : ℕ) → i < S.rules → get_or lists (S.rule_door i) 0 < 2 ^ S.tasks
+  pub fits : charges_with S lists < 2 ^ 64
 
 -- what costing a route asks: a sheet that 14 does not refuse, with tasks that a mask has bits for and doors that the array has places
 -- for; a point and doors of the sheet, with their tasks, none of them twice; at no step a load below zero; and a cost that fits
-pub record Costable (b : List ℕ) (v : View) (p : ℕ) (ds ts : List ℕ) : Type 0 where
-  pub view : Viewed b v
-  pub ranges : InRange (decode b)
-  pub least_counts : (i : ℕ) → i < (decode b).rules → 1 ≤ (decode b).least_count i
-  pub tasks : (decode b).tasks ≤ mask_bits
-  pub doors : (decode b).doors ≤ max_doors
-  pub point : p < (decode b).points
-  pub stands_in_sheet : in_sheet (decode b) ds ≡ true
-  pub tasks_are : ts ≡ map (decode b).task ds
+pub record Costable (S : Sheet) (p : ℕ) (ds ts : List ℕ) : Type 0 where
+  pub ranges : InRange S
+  pub least_counts : (i : ℕ) → i < S.rules → 1 ≤ S.least_count i
+  pub tasks : S.tasks ≤ mask_bits
+  pub doors : S.doors ≤ max_doors
+  pub point : p < S.points
+  pub stands_in_sheet : in_sheet S ds ≡ true
+  pub tasks_are : ts ≡ map S.task ds
   pub once : (t : ℕ) → count_of t ts ≤ 1
-  pub loads : (i : ℕ) → i < length ds → T (non_neg (load (decode b) (open_at (decode b) ds i)))
-  pub fits : cost (decode b) p ds < 2 ^ 64
+  pub loads : (i : ℕ) → i < length ds → T (non_neg (load S (open_at S ds i)))
+  pub fits : cost S p ds < 2 ^ 64

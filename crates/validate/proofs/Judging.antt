@@ -14,8 +14,6 @@ use Rattle.model.proofs.Bytes.Ranges.{in_range, least_counts_lem}
 use Rattle.model.proofs.Bytes.PlanBytes.{length_array, array_at, length_doors}
 use Rattle.model.proofs.Calls.Reading.{Reads, reads_then, counts_read, loads_read, refused_alike}
 use Rattle.model.proofs.Calls.Validating.{tasks_below, judged_solution}
-use Rattle.view.specs.declared.View.{View}
-use Rattle.view.specs.Views.{Viewed}
 use Rattle.route.specs.Routes.{Costable}
 use Rattle.route.proofs.Routes.{costable}
 
@@ -113,11 +111,10 @@ module _ {b : List ℕ} {start : ℕ} {ds : List ℕ} {c : ℕ} (R : Routed b st
 
         -- p is where the code starts
         module _ (p₃ : breaks_pair (decode b) ts ≡ false) {p : ℕ} (e : p ≡ (decode b).start_point start) where
-          pub solves : are_bytes b ≡ true → {v : View} → Viewed b v → Costable b v p ds ts
-          solves bytes view =
+          pub solves : are_bytes b ≡ true → Costable (decode b) p ds ts
+          solves bytes =
               let x = R.reads.passed_tests.ranges in
-              costable bytes view (counts_read b R.reads) ranges (least_counts_lem (layout_of b) (decode b) x)
-              (loads_read b R.reads) start
+              costable b bytes (counts_read b R.reads) ranges (least_counts_lem (layout_of b) (decode b) x) (loads_read b R.reads) start
               (judged_solution (decode b) ranges start ds R.size p₁ (rw t at p₂) (rw t at p₃)) e t
 
           -- r is the cost that it finds

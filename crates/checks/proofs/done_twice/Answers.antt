@@ -4,23 +4,23 @@ use Rattle.model.specs.{decode}
 use Rattle.checks.proofs.Placing.{none_done, done_again, done_next, all_once}
 use Rattle.checks.proofs.done_twice.Goals as goal
 
-pub loop-i-init : goal.loop-i-init
-loop-i-init c =
+pub loop-t-init : goal.loop-t-init
+loop-t-init c =
     none_done _
 
 -- the task is done already
 pub returns-then-contains : goal.returns-then-contains
 returns-then-contains c =
     let p = c.requires in
-    done_again _ p.1 p.0 c.loop-i.invariant c.loop-i-test.true (sym c.contains.ensures ∙ c.if-contains.true)
+    done_again _ p.1 p.0 c.loop-t.invariant c.loop-t-test.true (sym c.contains.ensures ∙ c.if-contains.true)
 
 -- one task more, not done before
-pub loop-i-preserved : goal.loop-i-preserved
-loop-i-preserved c =
-    done_next (decode c.args.s.now) c.requires.1 c.requires.0 c.loop-i.invariant c.loop-i-test.true
+pub loop-t-preserved : goal.loop-t-preserved
+loop-t-preserved c =
+    done_next (decode c.args.s.now) c.requires.1 c.requires.0 c.loop-t.invariant c.loop-t-test.true
     (sym c.contains.ensures ∙ c.if-contains.false) c.with-done.ensures
 
 -- no task is
 pub returns : goal.returns
 returns c =
-    let p = c.requires in all_once _ p.1 p.0 c.loop-i.invariant c.loop-i-test.false
+    let p = c.requires in all_once _ p.1 p.0 c.loop-t.invariant c.loop-t-test.false

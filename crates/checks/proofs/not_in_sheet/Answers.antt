@@ -1,39 +1,39 @@
--- With the start in the sheet the doors decide, and each door before place i is in it: where one is not, the loop ends. Assumes nothing.
-use Rattle.model.proofs.Basics.{◌≡◌, sym, ap, Bool, true, not, List, ℕ, ◌≤◌, ◌<◌, arith, ltb, lt-ltb, le-ltb, le-leb, lt-leb}
+-- With the start in the sheet the doors decide: the code looks for one that is not in it. Assumes nothing.
+use Rattle.std.proofs.Common.{tests}
+use Rattle.std.proofs.lemmas.Iterator.{YieldsList-from_slice}
+use Rattle.std.proofs.lemmas.Iterator.Search.{any_from_yields_List}
+use Rattle.std.specs.List.{list_any}
+use Rattle.model.proofs.Basics.{◌≡◌, refl, ◌∙◌, Bool, not, List, [], ◌∷◌, ℕ, ◌≤◌, ◌<◌, rules, ltb, leb, ltb-true, ltb-false, le-leb, lt-leb}
 use Rattle.model.specs.{all_in, in_sheet, not_in_sheet}
 use Rattle.model.specs.Sheet.{Sheet}
-use Rattle.model.proofs.Tools.Walks.{pass_next, pass_fails, pass_all}
+use Rattle.model.proofs.Tools.Tests.{by_test}
 use Rattle.view.proofs.Counted.{starts_are, doors_are}
 use Rattle.checks.proofs.not_in_sheet.Goals as goal
 
-module _ (S : Sheet) (start : ℕ) (ds : List ℕ) {starts : ℕ} (e : starts ≡ S.starts) where
-  no_start : starts ≤ start → true ≡ not_in_sheet S start ds
-  unfolding not_in_sheet
-  no_start l = rw (le-leb S.starts start (omega arith))
+-- some number reaches the limit n where not all are below it
+some_reaches : (n : ℕ) (xs : List ℕ) → list_any (leb n) xs ≡ not (all_in (λ x. ltb x n) xs)
+some_reaches n [] = refl
+some_reaches n (x ∷ xs) = by_test (ltb x n)
+    (λ w. rw (w, lt-leb n x (ltb-true x n w)) (some_reaches n xs))
+    (λ w. rw (w, le-leb n x (ltb-false x n w)))
 
-  then-doors : {limit : ℕ} {t : Bool} → start < starts → limit ≡ S.doors → all_in (λ d. ltb d limit) ds ≡ t → not t ≡ not_in_sheet S start ds
+module _ (S : Sheet) (start : ℕ) (ds : List ℕ) {starts : ℕ} (e : starts ≡ S.starts) where
+  no_start : starts ≤ start → leb starts start ≡ not_in_sheet S start ds
+  unfolding not_in_sheet
+  no_start l = rw (← e, le-leb starts start l)
+
+  then-doors : {limit : ℕ} {r : Bool} → start < starts → limit ≡ S.doors → r ≡ list_any (leb limit) ds → r ≡ not_in_sheet S start ds
   unfolding not_in_sheet in_sheet
-  then-doors l q h = rw (lt-leb S.starts start (omega arith), ← q) (sym (ap not h))
+  then-doors {limit} l q h = h ∙ rw (← e, lt-leb starts start l, ← q) (some_reaches limit ds)
 
 -- the start is not in the sheet
-pub returns-then-v-start : goal.returns-then-v-start
-returns-then-v-start c =
-    no_start _ _ _ (starts_are c.requires) c.if-v-start.true
+pub returns-then-sheet-start : goal.returns-then-sheet-start
+returns-then-sheet-start c =
+    no_start _ _ _ (starts_are c.args.sheet.now.viewed) c.if-sheet-start.true
 
--- a door is not
-pub returns-then-limit-doors : goal.returns-then-limit-doors
-returns-then-limit-doors c =
-    let v = c.requires in
-    let t = pass_fails c.loop-i.invariant c.loop-i-test.true (le-ltb _ _ c.if-limit-doors.true) in
-    then-doors _ _ _ (starts_are v) c.if-v-start.false (doors_are v) t
-
--- one door more is in the sheet
-pub loop-i-preserved : goal.loop-i-preserved
-loop-i-preserved c =
-    pass_next c.loop-i.invariant c.loop-i-test.true (lt-ltb _ _ c.if-limit-doors.false)
-
--- every door is
-pub returns : goal.returns
-returns c =
-    let v = c.requires in
-    then-doors _ _ _ (starts_are v) c.if-v-start.false (doors_are v) (pass_all c.loop-i.invariant c.loop-i-test.false)
+-- it is, and the doors decide
+pub returns-else-sheet-start : goal.returns-else-sheet-start
+returns-else-sheet-start c =
+    let v = c.args.sheet.now in
+    let found = any_from_yields_List (leb v.view.doors) _ _ c.any.result c.any.ensures.ran (YieldsList-from_slice c.args.doors.now cc) (λ x b q k. search (rules, tests)) in
+    then-doors _ _ _ (starts_are v.viewed) c.if-sheet-start.false (doors_are v.viewed) found

@@ -1,56 +1,37 @@
 -- Before each turn the sum is the legs of the steps from i on, and the load that of the list that is open there; the turn takes step
 -- i - 1 to them. Assumes nothing.
 use Rattle.model.proofs.Basics.{◌≡◌, suc, ◌-◌, arith, length}
-use Rattle.model.proofs.Tools.Elements.{are_bytes_lem}
-use Rattle.model.proofs.Tools.SignedSums.{widened_fits}
-use Rattle.model.proofs.Bytes.Widths.{widths}
-use mir.Syntax.{w16, w64}
+use Rattle.view.specs.Sheets.{sheet_of}
+use mir.Syntax.{w64}
 use mir.Val.{to_z}
-use Rattle.route.proofs.Steps.{no_leg, all_legs, point_in, Turn, there, its_door, its_task, from_in, to_in, load_grows}
+use Rattle.route.proofs.Steps.{no_leg, point_in, Turn, its_door, its_task, from_in, to_in, load_grows}
 use Rattle.route.proofs.Steps.{load_cast, next_leg, leg_fits}
 use Rattle.route.proofs.legs.Goals.{In-loop-i}
 use Rattle.route.proofs.legs.Goals as goal
 
 turn : (c : In-loop-i) →
     let a = c.args in
-    Turn a.s.now a.v a.p a.doors.now a.tasks.now (c.loop-i.i - 1) c.loop-i.sum (to_z w64 c.loop-i.load-bits)
+    Turn (sheet_of a.sheet.now) a.p a.doors.now a.tasks.now (c.loop-i.i - 1) c.loop-i.sum (to_z w64 c.loop-i.load-bits)
 turn c =
     let e : suc (c.loop-i.i - 1) ≡ c.loop-i.i = omega arith in
     record {
       asked = c.requires;
-      widths = widths c.args.s.now (are_bytes_lem c.args.s.now c.type_inv.s);
       behind = rw e c.loop-i.invariant;
     }
-
-pub point_before-last-requires : goal.point_before-last-requires
-point_before-last-requires c =
-    let p = c.requires in (p.view, p.stands_in_sheet, omega arith)
 
 pub end_cost-sum-requires : goal.end_cost-sum-requires
 end_cost-sum-requires c =
     let last = point_in c.requires (length c.args.doors.now) (omega arith) in
     let p = c.requires.point in
-    (c.requires.view, omega arith)
+    omega arith
 
 pub loop-i-init : goal.loop-i-init
 loop-i-init c =
     no_leg _ _ _ c.point_before-last.ensures c.end_cost-sum.ensures c.end_load-load.ensures (omega arith)
 
-pub point_before-from-requires : goal.point_before-from-requires
-point_before-from-requires c =
-    (c.requires.view, c.requires.stands_in_sheet, omega (arith, c.loop-i.invariant.within))
-
-pub bounds-tasks-i : goal.bounds-tasks-i
-bounds-tasks-i c =
-    there (turn (goal.at.bounds-tasks-i c).In-loop-i)
-
 pub change-requires : goal.change-requires
 change-requires c =
-    let t = turn (goal.at.change-requires c).In-loop-i in (t.asked.view, its_task t)
-
-pub overflow_cast-load-in-loop-i : goal.overflow_cast-load-in-loop-i
-overflow_cast-load-in-loop-i c =
-    let r = c.change in widened_fits w16 r.result r.type_inv w64 (omega (arith, r.type_inv))
+    let t = turn (goal.at.change-requires c).In-loop-i in its_task t
 
 pub overflow_add-load : goal.overflow_add-load
 overflow_add-load c =
@@ -58,14 +39,14 @@ overflow_add-load c =
 
 pub arrive-requires : goal.arrive-requires
 arrive-requires c =
-    let t = turn (goal.at.arrive-requires c).In-loop-i in (t.asked.view, its_door t)
+    let t = turn (goal.at.arrive-requires c).In-loop-i in its_door t
 
 pub distance-requires : goal.distance-requires
 distance-requires c =
     let t = turn (goal.at.distance-requires c).In-loop-i in
     let from = from_in t c.point_before-from.ensures in
     let to = to_in t c.arrive.ensures in
-    (t.asked.view, omega arith, omega arith)
+    (omega arith, omega arith)
 
 pub overflow_cast-sum-in-loop-i-2 : goal.overflow_cast-sum-in-loop-i-2
 overflow_cast-sum-in-loop-i-2 c =
@@ -73,17 +54,13 @@ overflow_cast-sum-in-loop-i-2 c =
 
 pub work-requires : goal.work-requires
 work-requires c =
-    let t = turn (goal.at.work-requires c).In-loop-i in (t.asked.view, its_door t)
+    let t = turn (goal.at.work-requires c).In-loop-i in its_door t
 
 -- one step more towards the start
 pub loop-i-preserved : goal.loop-i-preserved
 loop-i-preserved c =
     next_leg (turn (goal.at.loop-i-preserved c).In-loop-i) c.change.type_inv c.change.ensures c.point_before-from.ensures
     c.arrive.ensures c.distance.ensures c.work.ensures
-
-pub returns : goal.returns
-returns c =
-    all_legs c.loop-i.invariant c.loop-i-test.false
 
 -- the leg and the legs behind it
 pub overflow_mul-sum : goal.overflow_mul-sum

@@ -4,6 +4,3 @@ use Rattle.route.proofs.open_lists.Given as goal
 
 abbrev pub invariant-loop-i : goal.invariant-loop-i
 invariant-loop-i l = ListedFrom l.doors l.tasks l.lists l.later l.i
-
-abbrev pub decreases-loop-i : goal.decreases-loop-i
-decreases-loop-i l = l.i

@@ -1,20 +1,19 @@
 -- A plan that is not as laid out is refused; of one that is, the route that its bytes hold is judged, with its doors in the front of the
 -- array. Assumes nothing.
 use Rattle.model.proofs.Basics.{◌≡◌, sym, ◌∙◌, length-take-le}
-use Rattle.model.specs.{decode}
 use Rattle.model.proofs.Calls.Reading.{Reads}
 use Rattle.model.proofs.Calls.Interface.{reads_sheet}
+use Rattle.view.specs.Sheets.{sheet_of}
 use Rattle.view.proofs.Counted.{tasks_are}
-use Rattle.sheet.proofs.Laid.{viewed, reads_laid}
 use Rattle.validate.proofs.Judging.{ill_formed_lem, in_array, as_many_doors, route_judged}
 use Rattle.validate.proofs.validate_plan.Goals.{Start}
 use Rattle.validate.proofs.validate_plan.Goals as goal
 
-reads : (c : Start) → Reads c.args.s.now
-reads c = reads_sheet c.args.s.now c.requires.0
+reads : (c : Start) → Reads c.args.read.now.sheet.bytes.now
+reads c = reads_sheet _ c.args.read.now.reads
 
-count : (c : Start) → c.args.v.tasks ≡ (decode c.args.s.now).tasks
-count c = tasks_are (viewed (reads_laid (reads c)) c.requires.1)
+count : (c : Start) → c.args.read.now.sheet.view.tasks ≡ (sheet_of c.args.read.now.sheet).tasks
+count c = tasks_are c.args.read.now.sheet.viewed
 
 -- the bytes are ill-formed
 pub returns-then-ill_formed : goal.returns-then-ill_formed
@@ -35,7 +34,7 @@ slice_bounds-validate_route-end c =
 pub validate_route-requires : goal.validate_route-requires
 validate_route-requires c =
     let s = (goal.at.validate_route-requires c).Start in
-    (c.requires.0, c.requires.1, as_many_doors (reads s) c.args.q.now (count s) c.read_doors.ensures)
+    as_many_doors (reads s) c.args.q.now (count s) c.read_doors.ensures
 
 -- they are not, and the route was judged
 pub returns : goal.returns
