@@ -12,17 +12,10 @@ pub fn put_text(out: &mut [u8], at: usize, text: &[u8]) -> usize
 {
     let n = text.len();
     let room = out.len();
-    if room < at {
+    if room < at || room - at < n {
         return 0;
     }
-    if room - at < n {
-        return 0;
-    }
-    let mut i: usize = 0;
-    while i < n {
-        out[at + i] = text[i];
-        i = i + 1;
-    }
+    out[at..at + n].copy_from_slice(text);
     n
 }
 
@@ -34,14 +27,15 @@ pub fn put_number(out: &mut [u8], at: usize, n: u64) -> usize
     ensures written { result ≡ written_at at (decimal n) out.old }
     ensures bytes { out.new ≡ overwrite_at at (decimal n) out.old }
 {
-    // the digits from place k on are found, from the last to the first
-    let mut digits = [0u8; MAX_DIGITS];
-    let mut k: usize = MAX_DIGITS;
+    // The digits from place k on are found, from the last to the first. The loop stays: of std only `fmt` writes decimals, piece by piece into a writer of one's own,
+    // which would then have to put them here.
+    let mut digits = [0; MAX_DIGITS];
+    let mut k = MAX_DIGITS;
     let mut rest = n;
     loop {
-        k = k - 1;
-        digits[k] = (48 + rest % 10) as u8;
-        rest = rest / 10;
+        k -= 1;
+        digits[k] = b'0' + (rest % 10) as u8;
+        rest /= 10;
         if rest == 0 {
             break;
         }

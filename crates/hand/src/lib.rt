@@ -7,7 +7,8 @@ ghost use Rattle.hand.specs.Hands.{hand_of};
 
 use layout::MAX_DOORS;
 
-// A plan in hand: its doors, how many of the places they take, and its cost.
+// A plan in hand: its doors, how many of the places they take, and its cost. It is the form that the scope fixes: a struct by value, with a fixed array of doors
+// beside count and cost, and a method that hands on the longer plan.
 #[derive(Clone, Copy)]
 pub struct Plan {
     pub doors: [u16; MAX_DOORS],
@@ -21,27 +22,22 @@ impl Plan {
         ensures { hand_of result ≡ no_doors cost }
     {
         Plan {
-            doors: [0u16; MAX_DOORS],
+            doors: [0; MAX_DOORS],
             count: 0,
-            cost: cost,
+            cost,
         }
     }
 
     // The plan with that door added. A full plan is handed back as it is.
-    pub fn with_door(self, door: u16) -> Self
+    pub fn with_door(mut self, door: u16) -> Self
         ensures { hand_of result ≡ with_door (hand_of self) door }
     {
         let at = self.count;
-        if MAX_DOORS <= at {
-            return self;
+        if at < MAX_DOORS {
+            self.doors[at] = door;
+            self.count += 1;
         }
-        let mut doors = self.doors;
-        doors[at] = door;
-        Plan {
-            doors: doors,
-            count: at + 1,
-            cost: self.cost,
-        }
+        self
     }
 }
 
@@ -50,10 +46,8 @@ pub fn in_hand(n: u16, q: &[u8]) -> Plan
     ensures { hand_of result ≡ in_hand n q.now }
 {
     let mut x = Plan::new(layout::cost_in(n, q));
-    let mut i: u16 = 0;
-    while i < n {
+    for i in 0..n {
         x = x.with_door(layout::door_in(q, i));
-        i = i + 1;
     }
     x
 }

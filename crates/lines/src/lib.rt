@@ -7,6 +7,9 @@ ghost use Rattle.lines.specs.Lines.{labelled, line_of, head_lines, max_digits, m
 
 use decimal::{put_number, put_text};
 
+// Each of these takes the buffer and where to begin, and answers where it ended. A cursor that holds both would be no plainer: each contract would need a clause
+// more, that the cursor still holds the same buffer, and each caller a line that makes it and one that asks where it stands.
+
 // Lays a label and a number into the buffer from byte `at` on, where there is room for any number, and answers where they end.
 fn labelled(out: &mut [u8], at: usize, label: &[u8], n: u64) -> usize
     requires { at + length label.now + max_digits ≤ length out.old }

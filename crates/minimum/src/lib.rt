@@ -5,8 +5,8 @@
 ghost use Rattle.std.specs.Prelude.{◌≡◌, ℕ, ◌^◌, ◌<◌, min};
 ghost use Rattle.minimum.specs.Floats.{Holds};
 
-// What is added to each number: 2^60.
-const BIAS: u64 = 1152921504606846976;
+// What is added to each number.
+const BIAS: u64 = 1 << 60;
 
 // The float that a number stands in.
 pub fn float_of(n: u64) -> f64
@@ -16,7 +16,7 @@ pub fn float_of(n: u64) -> f64
     f64::from_bits(n + BIAS)
 }
 
-// The lesser of two floats, which is that of the lesser number.
+// The lesser of two floats, which is that of the lesser number. By one comparison: `f64::min` tests for a NaN besides.
 pub fn lesser(a: f64, b: f64) -> f64
     requires { ((m : ℕ) × Holds a m) × ((n : ℕ) × Holds b n) }
     ensures { (m n : ℕ) → Holds a m → Holds b n → Holds result (min m n) }
@@ -29,5 +29,5 @@ pub fn number_of(x: f64) -> u64
     requires { (n : ℕ) × Holds x n }
     ensures { (n : ℕ) → Holds x n → result ≡ n }
 {
-    f64::to_bits(x) - BIAS
+    x.to_bits() - BIAS
 }

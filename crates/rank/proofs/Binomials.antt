@@ -1,8 +1,11 @@
 -- Binomials: none above n, one of all, the most of a row, and half of all lists at most. Assumes nothing.
-use native.Mathlib.Nat.{le-max_left, le-max_right, max-le, max-eq_left, max-eq_right}
+use native.Mathlib.Nat.{le-max_left, le-max_right, max-le}
 use Rattle.model.proofs.Basics.{◌≡◌, refl, sym, ◌∙◌, ℕ, zero, suc, ◌+◌, ◌*◌, ◌-◌, ◌^◌, ◌≤◌, ◌<◌, le_trans, le_of_lt, add-one, arith, leb, leb-true}
 use Rattle.model.proofs.Basics.{leb-false, le-leb, lt-leb, pow_pos, pow_mono}
 use Rattle.model.proofs.Tools.Tests.{by_test, by_last}
+use Rattle.std.specs.Prelude.{max}
+use Rattle.std.proofs.lemmas.Bool.Decides.{nat_tests}
+use Rattle.std.specs.Ordering.{ord_max, nat_cmp}
 use Rattle.rank.specs.Binomials.{binomial, largest_below, most_lists}
 use Rattle.rank.specs.Ranks.{max_ranked, most_lists_of}
 
@@ -35,12 +38,13 @@ largest_le : (n c : ℕ) (f : ℕ → ℕ) → ((i : ℕ) → i < n → f i ≤ 
 largest_le zero c f h = omega arith
 largest_le (suc n) c f h = max-le (largest_le n c f (λ i l. h i (omega arith))) (h n (omega arith))
 
--- one turn more of a loop that looks for it: x is the number of the turn
-pub largest_now : (n : ℕ) (f : ℕ → ℕ) {most x : ℕ} → most ≡ largest_below n f → x ≡ f n → most < x → x ≡ largest_below (n + 1) f
-largest_now n f e h l = rw add-one (h ∙ sym (max-eq_right (omega arith)))
+-- the larger of two, as the code takes it
+max_is : (a b : ℕ) → ord_max nat_cmp a b ≡ max a b
+max_is a b = grind (arith, nat_tests)
 
-pub largest_still : (n : ℕ) (f : ℕ → ℕ) {most x : ℕ} → most ≡ largest_below n f → x ≡ f n → x ≤ most → most ≡ largest_below (n + 1) f
-largest_still n f e h l = rw add-one (e ∙ sym (max-eq_left (omega arith)))
+-- one turn more of a loop that takes the larger: x is the number of the turn
+pub largest_next : (n : ℕ) (f : ℕ → ℕ) {most x y : ℕ} → most ≡ largest_below n f → x ≡ f n → y ≡ ord_max nat_cmp most x → y ≡ largest_below (n + 1) f
+largest_next n f e h m = rw (m, add-one, e, h) (max_is (largest_below n f) (f n))
 
 -- ---- the most lists of one size
 
@@ -55,9 +59,17 @@ pub most_of : (n : ℕ) → n ≤ max_ranked → most_lists_of n ≡ most_lists 
 unfolding most_lists_of
 most_of n h = rw le-leb
 
-pub none_of : (n : ℕ) → max_ranked < n → most_lists_of n ≡ 0
+pub none_of : (n : ℕ) → max_ranked < n → 0 ≡ most_lists_of n
 unfolding most_lists_of
 none_of n h = rw lt-leb
+
+-- the last turn of a loop that takes the larger
+pub all_most : {n k most x y : ℕ} → n ≤ max_ranked → k ≤ n → n ≤ k → most ≡ largest_below k (binomial n) → x ≡ binomial n k → y ≡ ord_max nat_cmp most x
+    → y ≡ most_lists_of n
+unfolding most_lists
+all_most {n} {k} h a b e w m =
+    let all : n ≡ k = omega arith in
+    largest_next k (binomial n) e w m ∙ rw (← all, add-one) (sym (most_of n h))
 
 -- ---- two layers, with a row for each list of one size, and a row for each list
 

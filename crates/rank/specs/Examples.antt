@@ -5,7 +5,7 @@ use Rattle.model.specs.TaskList.{member, size}
 use Rattle.rank.specs.Binomials.{most_lists}
 use Rattle.rank.specs.Ranks.{rank}
 
--- the table as far as five tasks need it, retyped: n from 0 to 4, k from 0 to 5. The code's own is held to Pascal's rule, entry by entry, in the proof of `pascal`
+-- the table as far as five tasks need it, retyped: n from 0 to 4, k from 0 to 5. The code's own is held to Pascal's rule, entry by entry, in the proof of `Pascal::new`
 abbrev five_rows : List (List ℕ)
 five_rows =
     (1 ∷ 0 ∷ 0 ∷ 0 ∷ 0 ∷ 0 ∷ []) ∷ (1 ∷ 1 ∷ 0 ∷ 0 ∷ 0 ∷ 0 ∷ []) ∷ (1 ∷ 2 ∷ 1 ∷ 0 ∷ 0 ∷ 0 ∷ []) ∷ (1 ∷ 3 ∷ 3 ∷ 1 ∷ 0 ∷ 0 ∷ [])

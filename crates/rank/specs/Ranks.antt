@@ -27,7 +27,7 @@ abbrev pub max_ranked : ℕ
 max_ranked = 16
 
 -- the table has the binomials: n over k in row n at place k
-unfoldable pub Tabled : List (List ℕ) → Type 0
+abbrev pub Tabled : List (List ℕ) → Type 0
 Tabled table = (n k : ℕ) → n ≤ max_ranked → k ≤ max_ranked → get_or (get_or table n []) k 0 ≡ binomial n k
 
 -- the rank of a mask: that of the list of its first 16 tasks

@@ -14,7 +14,7 @@ const LISTS: u32 = 1 << MAX_TASKS;
 
 const WIDTH: usize = 17;
 
-// n over k, for n and k from 0 to 16: a row for each n.
+// n over k, for n and k from 0 to 16: a row for each n. It is the form that the scope fixes: ranks come from a constant table of 17 by 17.
 const BINOMIALS: [[u32; WIDTH]; WIDTH] = [
     [1, 0, 0, 0, 0, 0, 0, 0, 0, 0, 0, 0, 0, 0, 0, 0, 0],
     [1, 1, 0, 0, 0, 0, 0, 0, 0, 0, 0, 0, 0, 0, 0, 0, 0],
@@ -49,50 +49,11 @@ const BINOMIALS: [[u32; WIDTH]; WIDTH] = [
     ],
 ];
 
-// n over k in row n at place k.
-pub type Table = [[u32; WIDTH]; WIDTH];
-
-// The table. What looks into it is lent it, since a constant array is made anew wherever the code names it.
-pub fn pascal() -> Table
-    ensures { Tabled result }
-{
-    BINOMIALS
-}
-
-// n over k.
-fn binomial(table: &Table, n: usize, k: usize) -> u32
-    requires { Tabled table.now × ((n ≤ max_ranked) × (k ≤ max_ranked)) }
-    ensures { result ≡ binomial n k }
-{
-    table[n][k]
-}
-
 // The rank of a list, and its number of tasks.
 #[derive(Clone, Copy)]
 pub struct Ranked {
     pub rank: u32,
     pub size: usize,
-}
-
-// The rank of list k, by the tasks below 16: for each of them, the lowest first, t over the number of tasks so far.
-pub fn rank(table: &Table, k: u32) -> Ranked
-    requires { Tabled table.now }
-    ensures rank { result.rank ≡ rank_of k }
-    ensures size { result.size ≡ size max_ranked k }
-{
-    let mut left = k % LISTS;
-    let mut rank: u32 = 0;
-    let mut size: usize = 0;
-    while left != 0 {
-        let t = u32::trailing_zeros(left);
-        size = size + 1;
-        rank = rank + binomial(table, t as usize, size);
-        left = tasklist::without(left, t as u16);
-    }
-    Ranked {
-        rank: rank,
-        size: size,
-    }
 }
 
 // Where the row of a list begins in a layer, and for each task where that of the list without it ends.
@@ -102,50 +63,83 @@ pub struct ListRows {
     pub ends: [usize; MAX_TASKS],
 }
 
-// The rows of list k, each of so many cells. Of the list without task t, the tasks above t stand one place lower: so from the highest task down the sum has
-// each task above at its lower place, and those below where they are in k.
-pub fn rows(table: &Table, k: u32, points: u16) -> ListRows
-    requires { Tabled table.now }
-    ensures own { result.own ≡ rank_of k * points }
-    ensures ends { result.ends ≡ rank_ends points k }
-{
-    let all = rank(table, k);
-    let apart = points as usize;
-    let own = all.rank as usize * apart;
-    let mut ends = [own + apart; MAX_TASKS];
-    let mut left = k % LISTS;
-    let mut sum = all.rank;
-    let mut i = all.size;
-    while left != 0 {
-        let t = 31 - u32::leading_zeros(left);
-        let rest = sum - binomial(table, t as usize, i);
-        ends[t as usize] = rest as usize * apart + apart;
-        i = i - 1;
-        sum = rest + binomial(table, t as usize, i);
-        left = tasklist::without(left, t as u16);
+// The table of binomials: n over k in row n at place k. What looks into it is lent it, since a constant array is made anew wherever the code names it.
+#[derive(Drop)]
+pub struct Pascal {
+    entries: [[u32; WIDTH]; WIDTH],
+    ghost tabled: { Tabled entries },
+}
+
+impl Pascal {
+    // The table, from the constant.
+    pub fn new() -> Self {
+        Pascal { entries: BINOMIALS }
     }
-    ListRows {
-        own: own,
-        ends: ends,
+
+    // n over k.
+    fn binomial(&self, n: usize, k: usize) -> u32
+        requires { (n ≤ max_ranked) × (k ≤ max_ranked) }
+        ensures { result ≡ binomial n k }
+    {
+        self.entries[n][k]
+    }
+
+    // The rank of list k, by the tasks below 16: for each of them, the lowest first, t over the number of tasks so far. The loop goes from task to task
+    // of the mask, and not over its 16 places, of which most are often free.
+    pub fn rank(&self, k: u32) -> Ranked
+        ensures rank { result.rank ≡ rank_of k }
+        ensures size { result.size ≡ size max_ranked k }
+    {
+        let mut left = k % LISTS;
+        let mut rank = 0;
+        let mut size = 0;
+        while left != 0 {
+            let t = left.trailing_zeros();
+            size += 1;
+            rank += self.binomial(t as usize, size);
+            left = tasklist::without(left, t as u16);
+        }
+        Ranked { rank, size }
+    }
+
+    // The rows of list k, each of so many cells. Of the list without task t, the tasks above t stand one place lower: so from the highest task down the sum
+    // has each task above at its lower place, and those below where they are in k. The loop goes from task to task, as in `rank`.
+    pub fn rows(&self, k: u32, points: u16) -> ListRows
+        ensures own { result.own ≡ rank_of k * points }
+        ensures ends { result.ends ≡ rank_ends points k }
+    {
+        let all = self.rank(k);
+        let apart = points as usize;
+        let own = all.rank as usize * apart;
+        let mut ends = [own + apart; MAX_TASKS];
+        let mut left = k % LISTS;
+        let mut sum = all.rank;
+        let mut i = all.size;
+        while left != 0 {
+            let t = 31 - left.leading_zeros();
+            let rest = sum - self.binomial(t as usize, i);
+            ends[t as usize] = rest as usize * apart + apart;
+            i -= 1;
+            sum = rest + self.binomial(t as usize, i);
+            left = tasklist::without(left, t as u16);
+        }
+        ListRows { own, ends }
     }
 }
 
 // The most lists of one size of n tasks, up to 16; 0 for more.
+#[tactic(auto, using(crate::proofs::Binomials::largest_next, crate::proofs::Binomials::all_most, crate::proofs::Binomials::none_of))]
 pub fn most_lists(n: u16) -> u32
     ensures { result ≡ most_lists_of n }
 {
-    if n as usize > MAX_TASKS {
+    let n = n as usize;
+    if n > MAX_TASKS {
         return 0;
     }
-    let table = pascal();
-    let mut most: u32 = 0;
-    let mut k: usize = 0;
-    while k <= n as usize {
-        let lists = binomial(&table, n as usize, k);
-        if most < lists {
-            most = lists;
-        }
-        k = k + 1;
+    let table = Pascal::new();
+    let mut most = 0;
+    for k in 0..=n {
+        most = most.max(table.binomial(n, k));
     }
     most
 }
@@ -155,8 +149,8 @@ pub fn next(k: u32) -> u32
     requires { (0 < k) × (k < 2 ^ max_ranked) }
     ensures { NextOfSize mask_bits k result }
 {
-    let low = u32::trailing_zeros(k);
-    let carried = k + (1u32 << low);
-    let high = u32::trailing_zeros(carried);
-    carried + (1u32 << (high - low - 1)) - 1
+    let low = k.trailing_zeros();
+    let carried = k + (1 << low);
+    let high = carried.trailing_zeros();
+    carried + (1 << (high - low - 1)) - 1
 }

@@ -7,14 +7,13 @@ use Rattle.hand.proofs.in_hand.Goals as goal
 pub loop-i-init : goal.loop-i-init
 unfolding map_below
 loop-i-init c =
-    (omega arith, c.new-x.ensures ∙ ap no_doors c.cost_in.ensures)
+    c.new-x.ensures ∙ ap no_doors c.cost_in.ensures
 
 -- one door more is added
 pub loop-i-preserved : goal.loop-i-preserved
 loop-i-preserved c =
-    let so_far = c.loop-i.invariant.1 in
-    (omega arith, c.with_door-x.ensures ∙ ap₂ with_door so_far c.door_in.ensures ∙ sym (with_next _ _ _))
+    c.with_door-x.ensures ∙ ap₂ with_door c.loop-i.invariant c.door_in.ensures ∙ sym (with_next _ _ _)
 
 pub returns : goal.returns
 returns c =
-    all_added _ _ _ _ (omega arith) c.loop-i.invariant.1
+    all_added _ _ _ _ (omega arith) c.loop-i.invariant

@@ -1,18 +1,13 @@
 -- Task by task from the highest, the row of the list without it; the sum then has the task one place lower. Assumes nothing.
-use Rattle.model.proofs.Basics.{◌≡◌, sym, ap, ◌∙◌, ℕ, ◌+◌, ◌-◌, ◌*◌, ◌%◌, ◌^◌, ◌≤◌, ◌<◌, arith}
+use Rattle.model.proofs.Basics.{◌≡◌, sym, ap, ◌∙◌, ℕ, ◌-◌, ◌*◌, ◌%◌, ◌^◌, ◌≤◌, ◌<◌, arith}
 use Rattle.model.specs.{map_below, without, mask_bits}
 use lib.Count.{count_leading_zeros}
 use Rattle.rank.specs.Ranks.{rank, max_ranked, rank_of}
 use Rattle.rank.proofs.Binomials.{binomial_small}
-use Rattle.rank.proofs.Ends.{leading_less, Highest, highest, without_less, size_mask}
-use Rattle.rank.proofs.Rests.{none_lowered, one_lowered, rest_now, lower_fits, rank_small, row_fits, rows_none, rows_one}
-use Rattle.rank.proofs.Rests.{rows_all}
-use Rattle.rank.proofs.rows.Goals.{After-binomial, After-rank-all, In-loop-left}
-use Rattle.rank.proofs.rows.Goals as goal
-
--- the end of the list's own row
-own_fits : (c : After-rank-all) → let points = c.args.points in c.rank-all.result.rank * points + points < 2 ^ 33
-own_fits c = row_fits (rw c.rank-all.ensures.rank (rank_small _)) (omega arith)
+use Rattle.rank.proofs.Ends.{Highest, highest, without_less, size_mask}
+use Rattle.rank.proofs.Rests.{none_lowered, one_lowered, rest_now, lower_fits, rows_none, rows_one, rows_all}
+use Rattle.rank.proofs.Pascal.rows.Goals.{After-binomial, In-loop-left}
+use Rattle.rank.proofs.Pascal.rows.Goals as goal
 
 -- the task of the turn
 task : (c : In-loop-left) → Highest c.loop-left.left (31 - count_leading_zeros mask_bits c.loop-left.left)
@@ -34,19 +29,6 @@ rest c =
     let t : Highest c.loop-left.left (31 - count_leading_zeros mask_bits c.loop-left.left) = highest mask_bits _ (omega arith) (omega arith) in
     rest_now c.loop-left.invariant.1 t c.binomial.ensures
 
--- and where its row ends
-rest_fits : (c : After-binomial) →
-    let points = c.args.points in (c.loop-left.sum - c.binomial.result) * points + points < 2 ^ 33
-rest_fits c = row_fits (rest c).2 (omega arith)
-
-pub overflow_mul-own : goal.overflow_mul-own
-overflow_mul-own c =
-    record { fits = omega (arith, own_fits (goal.at.overflow_mul-own c).After-rank-all) }
-
-pub overflow_add-ends : goal.overflow_add-ends
-overflow_add-ends c =
-    record { fits = omega (arith, own_fits (goal.at.overflow_add-ends c).After-rank-all) }
-
 -- before the first turn every row is the list's own
 pub loop-left-init : goal.loop-left-init
 unfolding rank_of map_below
@@ -57,25 +39,9 @@ loop-left-init c =
       none_lowered _ _ (omega arith) r.rank (r.size ∙ sym (size_mask max_ranked a.k)),
     )
 
-pub overflow_sub-t : goal.overflow_sub-t
-overflow_sub-t c =
-    let l = leading_less mask_bits c.loop-left.left (omega arith) (omega arith) in omega arith
-
 pub binomial-requires : goal.binomial-requires
 binomial-requires c =
-    let p = placed (goal.at.binomial-requires c).In-loop-left in (c.requires, (omega arith, p.1))
-
-pub overflow_cast-ends : goal.overflow_cast-ends
-overflow_cast-ends c =
-    omega (arith, (rest (goal.at.overflow_cast-ends c).After-binomial).2)
-
-pub overflow_mul-ends : goal.overflow_mul-ends
-overflow_mul-ends c =
-    record { fits = omega (arith, rest_fits (goal.at.overflow_mul-ends c).After-binomial) }
-
-pub overflow_add-ends-in-loop-left : goal.overflow_add-ends-in-loop-left
-overflow_add-ends-in-loop-left c =
-    record { fits = omega (arith, rest_fits (goal.at.overflow_add-ends-in-loop-left c).After-binomial) }
+    let p = placed (goal.at.binomial-requires c).In-loop-left in (omega arith, p.1)
 
 pub bounds-ends-t : goal.bounds-ends-t
 bounds-ends-t c =
@@ -87,7 +53,7 @@ overflow_sub-i c =
 
 pub binomial-requires-in-loop-left : goal.binomial-requires-in-loop-left
 binomial-requires-in-loop-left c =
-    let p = placed (goal.at.binomial-requires-in-loop-left c).In-loop-left in (c.requires, (omega arith, omega arith))
+    let p = placed (goal.at.binomial-requires-in-loop-left c).In-loop-left in (omega arith, omega arith)
 
 pub overflow_add-sum : goal.overflow_add-sum
 overflow_add-sum c =

@@ -1,17 +1,13 @@
 -- Task by task from the lowest, the sum has what the tasks so far add. Assumes nothing.
-use Rattle.model.proofs.Basics.{◌∙◌, ℕ, ◌≤◌, arith}
+use Rattle.model.proofs.Basics.{◌∙◌, arith}
 use Rattle.model.specs.{mask_bits}
-use lib.Count.{count_trailing_zeros, count_leading_zeros, trailing_le, leading_le}
+use lib.Count.{count_trailing_zeros}
 use Rattle.rank.specs.Ranks.{max_ranked, rank_of}
 use Rattle.model.proofs.TaskLists.Lowest.{Lowest, lowest}
 use Rattle.rank.proofs.Ends.{without_less, size_mask}
 use Rattle.rank.proofs.Ranking.{none_ranked, one_ranked, rank_fits, all_ranked}
-use Rattle.rank.proofs.rank.Goals.{In-loop-left}
-use Rattle.rank.proofs.rank.Goals as goal
-
--- a count of zeros is at most the width: from either end, so that one from the wrong end fails by its place in the table, and not by its width
-zeros_le : (K : ℕ) → (count_trailing_zeros mask_bits K ≤ mask_bits) × (count_leading_zeros mask_bits K ≤ mask_bits)
-zeros_le K = (trailing_le mask_bits K, leading_le mask_bits K)
+use Rattle.rank.proofs.Pascal.rank.Goals.{In-loop-left}
+use Rattle.rank.proofs.Pascal.rank.Goals as goal
 
 -- the task of the turn
 task : (c : In-loop-left) → Lowest c.loop-left.left (count_trailing_zeros mask_bits c.loop-left.left)
@@ -25,21 +21,13 @@ pub overflow_add-size : goal.overflow_add-size
 overflow_add-size c =
     omega (arith, (rank_fits c.loop-left.invariant (task (goal.at.overflow_add-size c).In-loop-left)).1)
 
-pub overflow_cast-t : goal.overflow_cast-t
-overflow_cast-t c =
-    omega (arith, zeros_le c.loop-left.left)
-
 pub binomial-rank-requires : goal.binomial-rank-requires
 binomial-rank-requires c =
-    let f = rank_fits c.loop-left.invariant (task (goal.at.binomial-rank-requires c).In-loop-left) in (c.requires, (f.0, f.1))
+    let f = rank_fits c.loop-left.invariant (task (goal.at.binomial-rank-requires c).In-loop-left) in (f.0, f.1)
 
 pub overflow_add-rank : goal.overflow_add-rank
 overflow_add-rank c =
     omega (arith, (rank_fits c.loop-left.invariant (task (goal.at.overflow_add-rank c).In-loop-left)).2, c.binomial-rank.ensures)
-
-pub overflow_cast-t-in-loop-left : goal.overflow_cast-t-in-loop-left
-overflow_cast-t-in-loop-left c =
-    omega (arith, zeros_le c.loop-left.left)
 
 pub loop-left-smaller : goal.loop-left-smaller
 loop-left-smaller c =
