@@ -1,24 +1,25 @@
 -- What is gathered from cells in which the rests of a list stand gives the cost to go with that list open: Bellman's equation, as the code computes it. Assumes nothing.
 use Rattle.model.proofs.Basics.{◌≡◌, refl, sym, ap, ◌∙◌, true, List, map, ℕ, zero, suc, ◌+◌, ◌-◌, ◌*◌, ◌^◌, ◌≤◌, ◌<◌, arith, length, get_or, ltb, ltb-true}
-use Rattle.model.proofs.Basics.{length-map, pow_pos, ℤ, mul-le-mul_right, List·getD-append}
+use Rattle.model.proofs.Basics.{length-map, pow_pos, mul-le-mul_right, List·getD-append}
 use Rattle.model.specs.{map_below, overwrite, without, size, member, essential, pairs_allow, can_come_first, first_doors, charges, step_cost, cost_to_go, least}
 use Rattle.model.specs.Sheet.{Sheet}
 use Rattle.model.proofs.Tools.Tests.{and_left, and_right}
 use Rattle.model.proofs.Tools.Folds.{map_below_cong, length_map_below, map_below_at}
-use Rattle.model.proofs.Tools.Positions.{map_at}
+use Rattle.std.proofs.lemmas.List.{get_or-map}
 use Rattle.model.proofs.TaskLists.Masks.{bit_le, without_is, size_zero}
 use Rattle.model.proofs.Theory.FirstTask.{first_bit}
 use Rattle.model.proofs.Theory.Driving.{through_door, to_go_by_first, first_door, through_bound}
 use mathlib.Core.Bool.{false≢true, or-true}
-use Rattle.kernel_sheet.specs.Prepared.{BeginsOf, ColumnsOf, Workable}
-use Rattle.kernel_sheet.specs.declared.Counts.{Counts}
-use Rattle.kernel_list.specs.Lists.{Opening, Opened}
-use Rattle.kernel_gather.specs.Gathering.{doors_in, part_at, Gatherable}
+use Rattle.kernel_sheet.specs.Prepared.{BeginsOf, ColumnsOf}
+use Rattle.kernel_sheet.specs.declared.Numbers.{Numbers}
+use Rattle.kernel_sheet.specs.declared.Way.{Way}
+use Rattle.kernel_list.specs.Lists.{Opening}
+use Rattle.kernel_gather.specs.Gathering.{doors_in, part_at, way_at, Gatherable}
 use Rattle.kernel_gather.proofs.Walking.{doors_few, doors_each, doors_in_are}
 use Rattle.kernel_gather.proofs.Passing.{passing_place}
-use Rattle.kernel_row.specs.Leasts.{entry_at, through_gathered, least_from, Gathered, Rowable}
+use Rattle.kernel_row.specs.Leasts.{entry_at, nth_way, through_gathered, least_from, Gathered, Rowable}
 use Rattle.kernel_row.proofs.Minimums.{least_mapped}
-use Rattle.kernel_bellman.specs.Rests.{is_first, Rests, Listed}
+use Rattle.kernel_bellman.specs.Rests.{is_first, Listed, OpenList}
 
 -- ---- an essential list
 
@@ -46,8 +47,7 @@ without_lt S K t e = let b = first_bit S K t e in omega (arith, without_is K t b
 -- ---- a list that is open
 
 -- it can be opened
-pub opening : {S : Sheet} {x : Counts} {K r : ℕ} {changes : List ℤ} {sets begins works doors watches leasts mosts charged columns : List ℕ}
-    → Listed S x K r changes sets begins works doors watches leasts mosts charged columns → Opening S x K r changes sets works doors watches leasts mosts charged
+pub opening : {S : Sheet} {x : Numbers} {K r : ℕ} {columns : List ℕ} → Listed S x K r columns → Opening S x K r
 opening h = record {
   workable = h.arrays.workable;
   counts = h.arrays.counts;
@@ -59,14 +59,6 @@ opening h = record {
   work = h.arrays.work;
   rules = h.arrays.rules;
 }
-
--- a sheet that can be worked on, an essential list, what it has once it is open, and cells in which its rests stand; w is its load, `set` the doors that can come first
-pub record OpenList (S : Sheet) (K w set : ℕ) (before sums slots backs ends cells : List ℕ) : Type 0 where
-  pub workable : Workable S
-  pub list : K < 2 ^ S.tasks
-  pub ess : essential S K ≡ true
-  pub opened : Opened S K w set before sums
-  pub rests : Rests S K slots backs ends cells
 
 module _ {S : Sheet} {K w set : ℕ} {before sums slots backs ends cells : List ℕ} (O : OpenList S K w set before sums slots backs ends cells) where
   -- ---- each door
@@ -111,77 +103,68 @@ module _ {S : Sheet} {K w set : ℕ} {before sums slots backs ends cells : List 
   abbrev nth : ℕ → ℕ
   nth i = get_or (doors_in set) i 0
 
-  -- m in all: where the column of each begins, and its part
-  pub record Holding (m : ℕ) (begins parts : List ℕ) : Type 0 where
-    pub count : m ≡ length (doors_in set)
-    pub begin : (i : ℕ) → i < m → get_or begins i 0 ≡ S.arrive (nth i) * S.points
-    pub part : (i : ℕ) → i < m → get_or parts i 0 ≡ part_at sums slots backs ends cells (nth i)
+  each : (i : ℕ) → i < length (doors_in set) → (nth i < S.doors) × (is_first S K (nth i) ≡ true)
+  each i l = door_in_lem (nth i) (doors_each set i l).1
 
-  each : (m i : ℕ) → m ≡ length (doors_in set) → i < m → (nth i < S.doors) × (is_first S K (nth i) ≡ true)
-  each m i count l = door_in_lem (nth i) (doors_each set i (omega (arith, l, count))).1
+  -- as gathering leaves them
+  module _ (column : List ℕ) {columns : List ℕ} {ways : List Way} (B : BeginsOf S column) (C : ColumnsOf S columns)
+      (H : ways ≡ map (way_at column sums slots backs ends cells) (doors_in set)) where
+    count : length ways ≡ length (doors_in set)
+    count = rw H (length-map (doors_in set) (way_at column sums slots backs ends cells))
 
-  -- as gathering leaves it; x and y are what the arrays held before
-  pub hold : (column x y : List ℕ) {m : ℕ} {begins parts : List ℕ} → BeginsOf S column
-      → (m ≡ length (doors_in set)) × ((begins ≡ overwrite (map (λ (d : ℕ). get_or column d 0) (doors_in set)) x)
-      × (parts ≡ overwrite (map (part_at sums slots backs ends cells) (doors_in set)) y)) → Holding m begins parts
-  unfolding overwrite
-  hold column x y {m} B h = record {
-    count = h.0;
-    begin = λ i l.
-        let k : i < length (doors_in set) = omega (arith, l, h.0) in
-        rw h.1.0 (List·getD-append (map (λ (d : ℕ). get_or column d 0) (doors_in set)) _ 0 i (rw length-map k) ∙ map_at _ (doors_in set) i k ∙ B (nth i) (each m i h.0 l).0);
-    part = λ i l.
-        let k : i < length (doors_in set) = omega (arith, l, h.0) in
-        rw h.1.1 (List·getD-append (map (part_at sums slots backs ends cells) (doors_in set)) _ 0 i (rw length-map k) ∙ map_at _ (doors_in set) i k);
-  }
+    first : (i : ℕ) → i < length ways → (nth i < S.doors) × (is_first S K (nth i) ≡ true)
+    first i l = each i (rw count at l)
 
-  module _ {m : ℕ} {begins parts : List ℕ} (H : Holding m begins parts) where
-    first : (i : ℕ) → i < m → (nth i < S.doors) × (is_first S K (nth i) ≡ true)
-    first i l = each m i H.count l
+    way : (i : ℕ) → i < length ways → nth_way ways i ≡ way_at column sums slots backs ends cells (nth i)
+    way i l = rw H (get_or-map (way_at column sums slots backs ends cells) (doors_in set) i 0 _ (rw count at l))
 
-    module _ {columns : List ℕ} (C : ColumnsOf S columns) where
-      -- the entry of a point in the column of the i-th door is the distance to where that arrives
-      entry_is : (p i : ℕ) → p < S.points → i < m → entry_at columns (get_or begins i 0) p ≡ S.distance p (S.arrive (nth i))
-      entry_is p i l k = rw (H.begin i k) (C.entry p (S.arrive (nth i)) l (O.workable.plannable.ranges.arrive (nth i) (first i k).0))
+    -- the entry of a point in the column of the i-th door is the distance to where that arrives
+    entry_is : (p i : ℕ) → p < S.points → i < length ways → entry_at columns (nth_way ways i).begin p ≡ S.distance p (S.arrive (nth i))
+    unfolding way_at
+    entry_is p i l k =
+        let f = first i k in
+        rw (way i k, B (nth i) f.0) (C.entry p (S.arrive (nth i)) l (O.workable.plannable.ranges.arrive (nth i) f.0))
 
-      pub through_is : (p i : ℕ) → p < S.points → i < m → through_gathered columns w begins parts p i ≡ through_door S K p (nth i)
-      unfolding through_gathered
-      through_is p i l k = rw (entry_is p i l k, H.part i k) (door_is p (nth i) (first i k).0 (first i k).1)
+    pub through_is : (p i : ℕ) → p < S.points → i < length ways → through_gathered columns w ways p i ≡ through_door S K p (nth i)
+    unfolding through_gathered way_at
+    through_is p i l k = rw (entry_is p i l k, way i k) (door_is p (nth i) (first i k).0 (first i k).1)
 
-      -- that is what a cost through the doors asks
-      pub gathered : Gathered columns S.points w m begins parts
-      gathered = record {
-        doors = omega (arith, doors_few set, H.count);
-        column = λ i k.
-            let a : S.arrive (nth i) + 1 ≤ S.points = omega (arith, O.workable.plannable.ranges.arrive (nth i) (first i k).0) in
-            omega (arith, H.begin i k, mul-le-mul_right S.points a, C.room);
-        wide = λ p i l k. rw (entry_is p i l k) (O.workable.distance p (S.arrive (nth i)) l (O.workable.plannable.ranges.arrive (nth i) (first i k).0));
-        fits = λ p i l k. rw (through_is p i l k) (omega (arith, sum_small p (nth i) (first i k).0 (first i k).1));
-      }
+    -- that is what a cost through the doors asks
+    pub gathered : Gathered columns S.points w ways
+    unfolding way_at
+    gathered = record {
+      doors = omega (arith, doors_few set, count);
+      column = λ i k.
+          let f = first i k in
+          let a : S.arrive (nth i) + 1 ≤ S.points = omega (arith, O.workable.plannable.ranges.arrive (nth i) f.0) in
+          rw (way i k) (omega (arith, B (nth i) f.0, mul-le-mul_right S.points a, C.room));
+      wide = λ p i l k. rw (entry_is p i l k) (O.workable.distance p (S.arrive (nth i)) l (O.workable.plannable.ranges.arrive (nth i) (first i k).0));
+      fits = λ p i l k. rw (through_is p i l k) (omega (arith, sum_small p (nth i) (first i k).0 (first i k).1));
+    }
 
-      -- and what a row of n cells does
-      pub rowable : {n : ℕ} → n ≡ S.points → Rowable columns n w m begins parts
-      rowable e = rw e (record { few = O.workable.counts.points; gathered = gathered })
+    -- and what a row of n cells does
+    pub rowable : {n : ℕ} → n ≡ S.points → Rowable columns n w ways
+    rowable e = rw e (record { few = O.workable.counts.points; gathered = gathered })
 
-      -- ---- the least over them
+    -- ---- the least over them
 
-      -- some door can come first
-      some_first : 0 < length (doors_in set)
-      unfolding first_doors
-      some_first =
-          let k = essential_size S K O.list O.ess in
-          let f = first_door S O.workable.plannable K 0 O.list k.0 k.1 in
-          rw doors_are (omega (arith, (passing_place (is_first S K) S.doors f.door f.stands_in_sheet f.can).1))
+    -- some door can come first
+    some_first : 0 < length (doors_in set)
+    unfolding first_doors
+    some_first =
+        let k = essential_size S K O.list O.ess in
+        let f = first_door S O.workable.plannable K 0 O.list k.0 k.1 in
+        rw doors_are (omega (arith, (passing_place (is_first S K) S.doors f.door f.stands_in_sheet f.can).1))
 
-      pub least_is : (p : ℕ) → p < S.points → least_from columns w m begins parts p ≡ cost_to_go S K p
-      unfolding least_from
-      least_is p l =
-          let k = essential_size S K O.list O.ess in
-          rw H.count (least_mapped _ (through_door S K p) (doors_in set) some_first (λ i v. through_is p i l (rw H.count v))
-          (λ i v. let g = first i (rw H.count v) in omega (arith, sum_small p (nth i) g.0 g.1))
-          ∙ ap (λ (ds : List ℕ). least (map (through_door S K p) ds)) doors_are
-          ∙ sym (to_go_by_first S O.workable.plannable K p O.list k.0 k.1))
+    pub least_is : (p : ℕ) → p < S.points → least_from columns w ways p ≡ cost_to_go S K p
+    unfolding least_from
+    least_is p l =
+        let k = essential_size S K O.list O.ess in
+        rw count (least_mapped _ (through_door S K p) (doors_in set) some_first (λ i v. through_is p i l (rw count v))
+        (λ i v. let g = each i v in omega (arith, sum_small p (nth i) g.0 g.1))
+        ∙ ap (λ (ds : List ℕ). least (map (through_door S K p) ds)) doors_are
+        ∙ sym (to_go_by_first S O.workable.plannable K p O.list k.0 k.1))
 
-      -- a row whose cells are these is that of the costs to go
-      pub row_of : {n : ℕ} {row : List ℕ} → n ≡ S.points → row ≡ map_below n (least_from columns w m begins parts) → row ≡ map_below S.points (cost_to_go S K)
-      row_of e h = h ∙ rw e (map_below_cong S.points _ _ least_is)
+    -- a row whose cells are these is that of the costs to go
+    pub row_of : {n : ℕ} {row : List ℕ} → n ≡ S.points → row ≡ map_below n (least_from columns w ways) → row ≡ map_below S.points (cost_to_go S K)
+    row_of e h = h ∙ rw e (map_below_cong S.points _ _ least_is)

@@ -1,16 +1,14 @@
 -- The arrays of a sheet that is prepared, and what the code finds of a list by them: who waits, and whether it is essential. Assumes nothing.
-use Rattle.model.proofs.Basics.{◌≡◌, ◌∙◌, Bool, true, not, ◌||◌, List, ℕ, ◌^◌, ◌≤◌, ◌<◌, arith, ℤ}
+use Rattle.model.proofs.Basics.{◌≡◌, ◌∙◌, Bool, true, not, ◌||◌, List, ℕ, ◌^◌, ◌≤◌, ◌<◌, arith}
 use Rattle.model.specs.{all_below, member, essential, mask_bits}
 use Rattle.model.specs.Sheet.{Sheet}
-use Rattle.kernel_sheet.specs.declared.Counts.{Counts}
 use Rattle.kernel_sheet.specs.declared.Numbers.{Numbers}
 use Rattle.kernel_sheet.specs.Prepared.{ReceiversOf, Prepared}
 use Rattle.kernel_list.specs.Lists.{union_of, Waiting}
 use Rattle.kernel_list.proofs.Opening.{waiting_is, essential_is}
 use Rattle.kernel_bellman.specs.Rests.{Arrayed, Listed}
 
-pub arrayed : {S : Sheet} {x : Numbers} {columns : List ℕ} → Prepared S x columns
-    → Arrayed S x.counts x.tasks.change x.tasks.doors x.doors.column x.doors.work x.rules.door x.rules.watched x.rules.least x.rules.most x.rules.charge columns
+pub arrayed : {S : Sheet} {x : Numbers} {columns : List ℕ} → Prepared S x columns → Arrayed S x columns
 arrayed h = record {
   workable = h.workable;
   counts = h.numbers.counts;
@@ -23,8 +21,7 @@ arrayed h = record {
 }
 
 -- list K, and r, the union of its tasks' receivers
-module _ {S : Sheet} {x : Counts} {changes : List ℤ} {sets begins works doors watches leasts mosts charged columns : List ℕ}
-    (A : Arrayed S x changes sets begins works doors watches leasts mosts charged columns) (receiving : List ℕ) (R : ReceiversOf S receiving)
+module _ {S : Sheet} {x : Numbers} {columns : List ℕ} (A : Arrayed S x columns) (receiving : List ℕ) (R : ReceiversOf S receiving)
     (K r : ℕ) (l : K < 2 ^ S.tasks) (e : r ≡ union_of receiving K) where
   waits : Waiting S K r
   waits = waiting_is S receiving K r A.workable.counts.tasks l A.workable.plannable.ranges R e
@@ -35,5 +32,5 @@ module _ {S : Sheet} {x : Counts} {changes : List ℤ} {sets begins works doors 
       let few : S.tasks ≤ mask_bits = omega (arith, A.workable.counts.tasks) in
       h ∙ essential_is S K r waits mask_bits few A.workable.plannable.ranges some
 
-  pub listed : essential S K ≡ true → Listed S x K r changes sets begins works doors watches leasts mosts charged columns
+  pub listed : essential S K ≡ true → Listed S x K r columns
   listed ess = record { arrays = A; list = l; ess = ess; waiting = waits }

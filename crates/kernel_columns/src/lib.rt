@@ -3,27 +3,22 @@
 
 ghost use Rattle.std.specs.Prelude.{◌≡◌, ◌*◌, ◌≤◌, length};
 ghost use Rattle.model.specs.Bytes.{overwrite};
-ghost use Rattle.model.specs.SheetLayout.{decode};
-ghost use Rattle.view.specs.Views.{Viewed};
+ghost use Rattle.view.specs.Sheets.{sheet_of};
 ghost use Rattle.kernel_columns.specs.ByColumns.{columns_of};
 
-use view::View;
+use view::TaskSheet;
 
 // Writes the P times P distances, column after column, to the front of what is lent.
-pub fn columns(s: &[u8], v: View, out: &mut [u64])
-    requires { Viewed s.now v × ((decode s.now).points * (decode s.now).points ≤ length out.old) }
-    ensures { out.new ≡ overwrite (columns_of (decode s.now)) out.old }
+#[tactic(auto, using(view::proofs::Counted::points_are))]
+pub fn columns(sheet: &TaskSheet, out: &mut [u64])
+    requires { (sheet_of sheet.now).points * (sheet_of sheet.now).points ≤ length out.old }
+    ensures { out.new ≡ overwrite (columns_of (sheet_of sheet.now)) out.old }
 {
-    let points = v.points;
-    let mut i: usize = 0;
-    let mut q: u16 = 0;
-    while q < points {
-        let mut p: u16 = 0;
-        while p < points {
-            out[i] = view::distance(s, v, p, q) as u64;
-            i = i + 1;
-            p = p + 1;
+    let points = sheet.view.points;
+    for q in 0..points {
+        let begin = q as usize * points as usize;
+        for p in 0..points {
+            out[begin + p as usize] = sheet.distance(p, q) as u64;
         }
-        q = q + 1;
     }
 }

@@ -1,14 +1,13 @@
--- A list that can be completed: its cell, that it can be opened, and its next door. Assumes nothing.
-use Rattle.model.proofs.Basics.{◌≡◌, refl, sym, subst, ◌≢◌, true, List, [], ◌∷◌, ℕ, ◌+◌, ◌*◌, ◌<◌, arith, length, get_or, ne_eqb}
+-- A list that can be completed: its cell, that it can be opened, where its rests stand, and its next door. Assumes nothing.
+use Rattle.model.proofs.Basics.{◌≡◌, sym, subst, ◌≢◌, true, List, [], ◌∷◌, ℕ, ◌+◌, ◌*◌, arith, get_or, ne_eqb}
 use Rattle.model.specs.{essential, pairs_allow, cost_to_go}
 use Rattle.model.specs.Sheet.{Sheet}
 use Rattle.kernel_sheet.specs.declared.Numbers.{Numbers}
-use Rattle.kernel_list.specs.Lists.{union_of, Opened}
-use Rattle.kernel_bellman.specs.Rests.{Listed}
-use Rattle.kernel_bellman.proofs.Bellman.{OpenList}
+use Rattle.kernel_list.specs.Lists.{union_of}
+use Rattle.kernel_bellman.specs.Rests.{Listed, Rests}
 use Rattle.kernel_bellman.proofs.Lists.{arrayed, listed}
 use Rattle.kernel_table.specs.Cells.{TableRests}
-use Rattle.kernel_table.proofs.Standing.{placed, list_open}
+use Rattle.kernel_table.proofs.Standing.{rests_below}
 use Rattle.kernel_complete.specs.Completed.{best_doors, next_door, Completable}
 use Rattle.kernel_complete.proofs.NextDoor.{NextIs, chosen_next}
 
@@ -24,10 +23,7 @@ module _ {S : Sheet} {x : Numbers} {columns : List ℕ} {K p : ℕ} {cells : Lis
   points : x.counts.points ≡ S.points
   points = C.prepared.numbers.counts.points
 
-  -- its cell
-  pub cell_in : K * x.counts.points + p < length cells
-  cell_in = rw points (omega (arith, C.point, C.room))
-
+  -- what stands in its cell
   pub cell_is : get_or cells (K * x.counts.points + p) 0 ≡ cost_to_go S K p
   cell_is = rw points (C.known K p (omega arith) C.allowed C.point)
 
@@ -39,12 +35,9 @@ module _ {S : Sheet} {x : Numbers} {columns : List ℕ} {K p : ℕ} {cells : Lis
         subst (NextIs S K p) (sym (is_next next)) next
 
     -- it can be opened, with r, the union of its tasks' receivers
-    pub lists : {r : ℕ} → r ≡ union_of x.tasks.receivers K
-        → Listed S x.counts K r x.tasks.change x.tasks.doors x.doors.column x.doors.work
-        x.rules.door x.rules.watched x.rules.least x.rules.most x.rules.charge columns
+    pub lists : {r : ℕ} → r ≡ union_of x.tasks.receivers K → Listed S x K r columns
     lists {r} e = listed (arrayed C.prepared) x.tasks.receivers C.prepared.numbers.tasks.receivers K r C.list e (is_essential S K C.allowed some)
 
-    -- and is open then
-    pub opens : {slots backs : List ℕ} {r w set : ℕ} {before sums : List ℕ} → TableRests S slots backs → r ≡ union_of x.tasks.receivers K
-        → Opened S K w set before sums → OpenList S K w set before sums slots backs (K * x.counts.points ∷ []) cells
-    opens T e o = list_open (lists e) T (λ J q l a m. C.known J q (omega arith) a m) (placed (lists e) C.room) o refl
+  -- its rests stand in the cells
+  pub rests : {slots backs : List ℕ} → TableRests S slots backs → Rests S K slots backs (K * x.counts.points ∷ []) cells
+  rests T = rw points (rests_below K C.prepared.workable.plannable.ranges T C.allowed (omega (arith, C.room)) (λ J q l a m. C.known J q (omega arith) a m))

@@ -1,4 +1,3 @@
-pub mod Finding
 pub mod NextDoor
 pub mod Choosing
 pub mod Completing

@@ -6,8 +6,14 @@ use Rattle.model.specs.Orders.{pairs_allow}
 use Rattle.model.specs.Plans.{cost_to_go, cheapest_completion}
 use Rattle.model.specs.PlanInHand.{PlanInHand, no_doors, with_doors}
 use Rattle.kernel_sheet.specs.declared.Numbers.{Numbers}
+use Rattle.kernel_sheet.specs.declared.Way.{Way}
 use Rattle.kernel_sheet.specs.Prepared.{Prepared}
+use Rattle.kernel_row.specs.Leasts.{entry_at}
 use Rattle.kernel_table.specs.Cells.{Shown}
+
+-- from point p by a door that was gathered: the distance to where it arrives times the load, and the part of its cost that does not hang on the point
+abbrev pub cost_by : List ℕ → ℕ → ℕ → Way → ℕ
+cost_by columns load p way = entry_at columns way.begin p * load + way.part
 
 -- the doors of the cheapest completion of K from point p; there is one wherever 14, 15 and 17 do not apply (`some_completion`)
 unfoldable pub best_doors : Sheet → ℕ → ℕ → List ℕ

@@ -1,7 +1,7 @@
 -- A layer while the rows of one size are written into it, at their ranks: what is shown by then, and that every cell is as lent or an open cell of this layer.
 -- Ranks of lists of one size are distinct, so no row of a size is written over another of that size. And where the rests of a list stand in the layer below. Assumes nothing.
-use Rattle.model.proofs.Basics.{◌≡◌, refl, sym, ap, ap₂, ◌∙◌, ◌⊎◌, inl, inr, ⊎_elim, true, false, List, ◌++◌, ℕ, suc, ◌+◌, ◌-◌, ◌*◌, ◌/◌, ◌%◌, ◌^◌, ◌≤◌, ◌<◌, ℤ, arith, ltb, length, get_or}
-use Rattle.model.proofs.Basics.{ltb-true, ltb-false, mod-lt, zero-lt-suc, mul-le-mul_right, pow_pos, pow_mono, ne_eqb, take, drop, length-take-le, replicate}
+use Rattle.model.proofs.Basics.{◌≡◌, refl, sym, ap, ap₂, ◌∙◌, ◌⊎◌, inl, inr, ⊎_elim, true, false, List, ◌++◌, ℕ, suc, ◌+◌, ◌-◌, ◌*◌, ◌/◌, ◌%◌, ◌^◌, ◌≤◌, ◌<◌, arith, ltb, length, get_or}
+use Rattle.model.proofs.Basics.{ltb-true, ltb-false, mul-le-mul_right, pow_pos, pow_mono, ne_eqb, take, drop, length-take-le, replicate}
 use Rattle.model.specs.{map_below, full, without, size, essential, pairs_allow, cost_to_go, overwrite, overwrite_at, mask_bits, max_tasks, max_doors, InRange}
 use Rattle.model.specs.Sheet.{Sheet}
 use Rattle.model.proofs.Tools.Tests.{by_test, by_last, not_both, or_neither}
@@ -12,7 +12,7 @@ use Rattle.model.proofs.Theory.OpenAlong.{full_allowed}
 use Rattle.model.proofs.Theory.Completions.{to_go_none}
 use Rattle.model.proofs.Bytes.Overwriting.{length_over, over_front, over_below, over_in, over_beyond}
 use lib.Arith.{digits_div, digits_mod}
-use native.Mathlib.Nat.{zero-mul, one-mul, add-sub_cancel, div-lt_iff_lt-mul}
+use native.Mathlib.Nat.{zero-mul, one-mul, div-lt_iff_lt-mul}
 use borrow.Rule.Slice.PartMut.{put_mid}
 use Rattle.rank.specs.Binomials.{most_lists}
 use Rattle.rank.specs.Ranks.{rank, max_ranked, rank_of, rank_ends, NextOfSize}
@@ -21,14 +21,14 @@ use Rattle.rank.proofs.Counting.{rank_distinct, rank_most, rank_full, rank_empty
 use Rattle.rank.proofs.Sizes.{size_narrow, full_least}
 use Rattle.rank.proofs.Following.{none_among}
 use Rattle.kernel_sheet.specs.declared.Counts.{Counts}
-use Rattle.kernel_sheet.specs.Prepared.{CountsOf, DoorsOf, EndsOf, Workable}
-use Rattle.kernel_list.specs.Lists.{Opened}
+use Rattle.kernel_sheet.specs.declared.Numbers.{Numbers}
+use Rattle.kernel_sheet.specs.Prepared.{CountsOf, EndsOf, NumbersOf, Workable}
 use Rattle.model.proofs.Tools.Arrays.{front_at}
 use Rattle.kernel_gather.specs.Gathering.{rest_at}
 use Rattle.kernel_bellman.specs.Rests.{Rests, Listed}
-use Rattle.kernel_bellman.proofs.Bellman.{essential_allowed, OpenList}
+use Rattle.kernel_bellman.proofs.Bellman.{essential_allowed}
 use Rattle.kernel_bellman.proofs.Parts.{row_ends, row_length, row_written}
-use Rattle.kernel_layers.specs.Layers.{layer_cells, OpenCell, with_row, LayerFilled, ShowsBelow, Shows, ShowsRests, Kept, Half, backs_of, Backable, LayerRests, Roomy}
+use Rattle.kernel_layers.specs.Layers.{layer_cells, OpenCell, with_row, LayerFilled, ShowsBelow, Shows, ShowsRests, Kept, Half, backs_of, Backable, LayerRests}
 
 -- ---- a row written at its place
 
@@ -141,45 +141,40 @@ begin {S} {m} {lists} {before} all one within = record {
   kept = as_lent S (m % 2) before;
 }
 
-module _ {S : Sheet} {m lists k : ℕ} {before layer : List ℕ} (h : Filling S m before lists layer k) where
-  -- and ends with all of them done
-  pub all_done : lists ≤ k → Shows S m layer × Kept S (m % 2) before layer
-  all_done d = (record { shown = λ K p l low s a point. h.shown.shown K p (omega (arith, h.all)) low s a point }, h.kept)
+module _ {S : Sheet} {m lists k : ℕ} {before layer : List ℕ} (h : Filling S m before lists layer k) (more : k < lists) where
+  pub stands_in_sheet : k < 2 ^ S.tasks
+  stands_in_sheet = omega (arith, h.all)
 
-  module _ (more : k < lists) where
-    pub stands_in_sheet : k < 2 ^ S.tasks
-    stands_in_sheet = omega (arith, h.all)
+  -- a turn: next is the next list of that size
+  module _ (few : S.tasks ≤ max_tasks) (room : layer_cells S ≤ length before) {next : ℕ} (n : NextOfSize mask_bits k next) where
+    layer_room : layer_cells S ≤ length layer
+    layer_room = omega (arith, room, h.kept.as_many)
 
-    -- a turn: next is the next list of that size
-    module _ (few : S.tasks ≤ max_tasks) (room : layer_cells S ≤ length before) {next : ℕ} (n : NextOfSize mask_bits k next) where
-      layer_room : layer_cells S ≤ length layer
-      layer_room = omega (arith, room, h.kept.as_many)
+    in_mask : (L : ℕ) → L < 2 ^ S.tasks → size mask_bits L ≡ size S.tasks L
+    in_mask L l = size_narrow S.tasks mask_bits L l (omega (arith, few))
 
-      in_mask : (L : ℕ) → L < 2 ^ S.tasks → size mask_bits L ≡ size S.tasks L
-      in_mask L l = size_narrow S.tasks mask_bits L l (omega (arith, few))
+    upto : (L : ℕ) → L < next → L < 2 ^ S.tasks → size S.tasks L ≡ m → (L < k) ⊎ (L ≡ k)
+    upto L l low s = by_test (ltb L (suc k))
+        (λ w. by_last L k (ltb-true L (suc k) w) inr inl)
+        (λ w. absurd (none_among S.tasks mask_bits k next (omega (arith, few)) n stands_in_sheet L (ltb-false L (suc k) w) l low (s ∙ sym (h.of_size more))))
 
-      upto : (L : ℕ) → L < next → L < 2 ^ S.tasks → size S.tasks L ≡ m → (L < k) ⊎ (L ≡ k)
-      upto L l low s = by_test (ltb L (suc k))
-          (λ w. by_last L k (ltb-true L (suc k) w) inr inl)
-          (λ w. absurd (none_among S.tasks mask_bits k next (omega (arith, few)) n stands_in_sheet L (ltb-false L (suc k) w) l low (s ∙ sym (h.of_size more))))
+    turn : {new : List ℕ} → ShowsBelow S m next new → Kept S (m % 2) before new → Filling S m before lists new next
+    turn shown kept = record {
+      all = h.all;
+      some = omega (arith, n.above);
+      of_size = λ l. let low : next < 2 ^ S.tasks = omega (arith, h.all) in sym (in_mask next low) ∙ n.same ∙ in_mask k stands_in_sheet ∙ h.of_size more;
+      shown = shown;
+      kept = kept;
+    }
 
-      turn : {new : List ℕ} → ShowsBelow S m next new → Kept S (m % 2) before new → Filling S m before lists new next
-      turn shown kept = record {
-        all = h.all;
-        some = omega (arith, n.above);
-        of_size = λ l. let low : next < 2 ^ S.tasks = omega (arith, h.all) in sym (in_mask next low) ∙ n.same ∙ in_mask k stands_in_sheet ∙ h.of_size more;
-        shown = shown;
-        kept = kept;
-      }
+    -- the row of an essential list was written, or a list that is not essential was passed over
+    pub row_turn : {new : List ℕ} → essential S k ≡ true → new ≡ with_row S k layer → Filling S m before lists new next
+    row_turn e q = rw q (turn (shows_row S layer k stands_in_sheet layer_room h.shown (h.of_size more) upto)
+        (kept_row S layer k stands_in_sheet layer_room h.kept (essential_allowed S k e) (ap (λ (i : ℕ). i % 2) (h.of_size more))))
 
-      -- the row of an essential list was written, or a list that is not essential was passed over
-      pub row_turn : {new : List ℕ} → essential S k ≡ true → new ≡ with_row S k layer → Filling S m before lists new next
-      row_turn e q = rw q (turn (shows_row S layer k stands_in_sheet layer_room h.shown (h.of_size more) upto)
-          (kept_row S layer k stands_in_sheet layer_room h.kept (essential_allowed S k e) (ap (λ (i : ℕ). i % 2) (h.of_size more))))
-
-      pub pass_turn : {new : List ℕ} → essential S k ≡ false → new ≡ layer → Filling S m before lists new next
-      unfolding pairs_allow
-      pass_turn e q = rw q (turn (shows_pass S layer k stands_in_sheet layer_room h.shown (h.of_size more) upto (or_neither (ne_eqb k 0 (λ z. omega (arith, h.some))) e)) h.kept)
+    pub pass_turn : {new : List ℕ} → essential S k ≡ false → new ≡ layer → Filling S m before lists new next
+    unfolding pairs_allow
+    pass_turn e q = rw q (turn (shows_pass S layer k stands_in_sheet layer_room h.shown (h.of_size more) upto (or_neither (ne_eqb k 0 (λ z. omega (arith, h.some))) e)) h.kept)
 
 -- ---- the loop over the sizes
 
@@ -200,31 +195,6 @@ module _ {S : Sheet} {parity m : ℕ} {lent layer : List ℕ} (h : Half S parity
             rw first at ((h.shown (rw e q)).shown (full S.tasks) p (full_lt S.tasks) (full_lt S.tasks) (size_full S.tasks ∙ sym e) (full_allowed S R) l);
         others = λ i l. c.cells i;
       }
-
--- a size that is not even is odd
-not_even : (m : ℕ) → ((m + 1) % 2 ≡ 0 → ⊥) → (m + 1) % 2 ≡ 1
-not_even m n = omega (arith, mod-lt (m + 1) (zero-lt-suc 1))
-
--- one size more, from the layer that shows the one before it: an even size from the odd layer, an odd one from the even
-module _ {S : Sheet} {m : ℕ} {lent₀ lent₁ even odd : List ℕ} (h : Half S 0 m lent₀ even) (g : Half S 1 m lent₁ odd) where
-  pub from_odd : (m + 1) % 2 ≡ 0 → Shows S (m + 1 - 1) odd
-  from_odd e = rw add-sub_cancel (g.shown (omega (arith, e)))
-
-  pub from_even : ((m + 1) % 2 ≡ 0 → ⊥) → Shows S (m + 1 - 1) even
-  from_even n = rw add-sub_cancel (h.shown (omega (arith, not_even m n)))
-
-  pub even_next : {new : List ℕ} (e : (m + 1) % 2 ≡ 0) → Shows S (m + 1) new × Kept S ((m + 1) % 2) even new → Half S 0 (m + 1) lent₀ new × Half S 1 (m + 1) lent₁ odd
-  even_next e w = (record { shown = λ q. w.0; kept = kept_on h.kept (rw e at w.1) }, record { shown = λ q. absurd (omega (arith, e, q)); kept = g.kept })
-
-  pub odd_next : {new : List ℕ} (n : (m + 1) % 2 ≡ 0 → ⊥) → Shows S (m + 1) new × Kept S ((m + 1) % 2) odd new → Half S 0 (m + 1) lent₀ even × Half S 1 (m + 1) lent₁ new
-  odd_next n w = (record { shown = λ q. absurd (n q); kept = h.kept }, record { shown = λ q. w.0; kept = kept_on g.kept (rw (not_even m n) at w.1) })
-
-  -- both have room, either way round
-  pub both_roomy : Roomy S lent₀ lent₁ → Roomy S even odd × Roomy S odd even
-  both_roomy r =
-      let e : layer_cells S ≤ length even = omega (arith, r.room_below, h.kept.as_many) in
-      let o : layer_cells S ≤ length odd = omega (arith, r.room_here, g.kept.as_many) in
-      (record { room_below = e; room_here = o }, record { room_below = o; room_here = e })
 
 -- the even layer begins with the end costs, the row of the empty list
 module _ (S : Sheet) (even ends : List ℕ) (R : InRange S) (room : layer_cells S ≤ length even) (E : EndsOf S ends) {n : ℕ} {row : List ℕ} (e : n ≡ S.points)
@@ -252,13 +222,13 @@ unfolding layer_cells
 same_room C D h = rw (sym D.tasks ∙ C.tasks, sym D.points ∙ C.points) h
 
 -- the numbers of a sheet's doors are what counting back asks, and gives
-module _ {S : Sheet} {x : Counts} {columns tasks departs works : List ℕ} (W : Workable S) (C : CountsOf S x) (D : DoorsOf S columns tasks departs works) where
-  pub backable : Backable x.points x.doors departs
-  backable = rw (C.points, C.doors) (record { doors = W.counts.doors; depart = λ d l. rw (D.depart d l) (W.plannable.ranges.depart d l) })
+module _ {S : Sheet} {x : Numbers} (W : Workable S) (N : NumbersOf S x) where
+  pub backable : Backable x.counts.points x.counts.doors x.doors.depart
+  backable = rw (N.counts.points, N.counts.doors) (record { doors = W.counts.doors; depart = λ d l. rw (N.doors.depart d l) (W.plannable.ranges.depart d l) })
 
-  pub layer_rests : {backs : List ℕ} → backs ≡ backs_of x.points x.doors departs → LayerRests S tasks backs
+  pub layer_rests : {backs : List ℕ} → backs ≡ backs_of x.counts.points x.counts.doors x.doors.depart → LayerRests S x.doors.task backs
   unfolding backs_of
-  layer_rests e = record { slot = D.task; back = λ d l. rw (e, C.points, C.doors) (front_at S.doors _ (replicate max_doors 0) d l ∙ rw (D.depart d l)) }
+  layer_rests e = record { slot = N.doors.task; back = λ d l. rw (e, N.counts.points, N.counts.doors) (front_at S.doors _ (replicate max_doors 0) d l ∙ rw (N.doors.depart d l)) }
 
 -- the own row of K, as the code takes it: at its rank there is room for it, and what is written there is written over it
 pub record OwnRow (S : Sheet) (K own n : ℕ) (here : List ℕ) : Type 0 where
@@ -271,12 +241,11 @@ pub ends_many : {ends : List ℕ} (P K : ℕ) → ends ≡ rank_ends P K → len
 unfolding rank_ends
 ends_many P K e = ap length e ∙ length_map_below max_ranked _
 
-module _ {S : Sheet} {x : Counts} {K r : ℕ} {changes : List ℤ} {sets begins works doors watches leasts mosts charged columns : List ℕ}
-    (h : Listed S x K r changes sets begins works doors watches leasts mosts charged columns) where
+module _ {S : Sheet} {x : Numbers} {K r : ℕ} {columns : List ℕ} (h : Listed S x K r columns) where
   few : S.tasks ≤ max_ranked
   few = omega (arith, h.arrays.workable.counts.tasks)
 
-  pub own_row : {own : ℕ} (here : List ℕ) → layer_cells S ≤ length here → own ≡ rank_of K * x.points → OwnRow S K own x.points here
+  pub own_row : {own : ℕ} (here : List ℕ) → layer_cells S ≤ length here → own ≡ rank_of K * x.counts.points → OwnRow S K own x.counts.points here
   unfolding with_row
   own_row {own} here room e =
       let there : rank S.tasks K * S.points + S.points ≤ length here = omega (arith, row_room S here K h.list room) in
@@ -289,7 +258,7 @@ module _ {S : Sheet} {x : Counts} {K r : ℕ} {changes : List ℤ} {sets begins 
 
   -- which lists of the layer below a list needs: K without each task that can come first has one task less, is one that the pairs allow, and stands there at its
   -- rank. That the layer below still shows them is `Half`: it is written over only once the size that it is needed for is done
-  module _ {slots backs ends below : List ℕ} (T : LayerRests S slots backs) (e : ends ≡ rank_ends x.points K) (room : layer_cells S ≤ length below) (shown : ShowsRests S K below) where
+  module _ {slots backs ends below : List ℕ} (T : LayerRests S slots backs) (e : ends ≡ rank_ends x.counts.points K) (room : layer_cells S ≤ length below) (shown : ShowsRests S K below) where
     module _ (d : ℕ) (l : d < S.doors) where
       task : S.task d < S.tasks
       task = h.arrays.workable.plannable.ranges.task d l
@@ -309,16 +278,12 @@ module _ {S : Sheet} {x : Counts} {K r : ℕ} {changes : List ℤ} {sets begins 
       unfolding rest_at
       at = rw (end_is, T.back d l) (omega (arith, point))
 
-    rests_stand : Rests S K slots backs ends below
+    pub rests_stand : Rests S K slots backs ends below
     rests_stand = record {
-      slot = λ d l f. rw (T.slot d l, ends_many x.points K e) (omega (arith, task d l, few));
+      slot = λ d l f. rw (T.slot d l, ends_many x.counts.points K e) (omega (arith, task d l, few));
       back = λ d l f. rw (end_is d l, T.back d l) (omega arith);
       cell = λ d l f. rw (at d l) (omega (arith, point d l, row_room S below (without K (S.task d)) (less d l) room));
       shows = λ d l f.
           let one : size S.tasks (without K (S.task d)) ≡ size S.tasks K - 1 = omega (arith, size_without S.tasks K (S.task d) (task d l) (first_bit S K (S.task d) f)) in
           rw (at d l) (shown.shown (without K (S.task d)) (S.depart d) (less d l) (less d l) one (allow_without S K (S.task d) (essential_allowed S K h.ess) f) (point d l));
     }
-
-    -- so it is open with them
-    pub open_list : {w set : ℕ} {before sums : List ℕ} → Opened S K w set before sums → OpenList S K w set before sums slots backs ends below
-    open_list o = record { workable = h.arrays.workable; list = h.list; ess = h.ess; opened = o; rests = rests_stand }

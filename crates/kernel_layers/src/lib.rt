@@ -5,192 +5,92 @@ ghost use Rattle.std.specs.Prelude.{◌≡◌, ◌-◌, ◌%◌, ◌≤◌};
 ghost use Rattle.model.specs.Sheet.{Sheet};
 ghost use Rattle.kernel_sheet.specs.Prepared.{ReceiversOf, Prepared};
 ghost use Rattle.kernel_bellman.specs.Rests.{Listed, Arrayed};
-ghost use Rattle.rank.specs.Ranks.{Tabled};
 ghost use Rattle.kernel_layers.specs.Layers.{with_row, Shows, ShowsRests, Kept, Half, LayerFilled, backs_of, Backable, LayerRests, Roomy};
 
-use kernel_sheet::{Counts, MAX_DOORS, MAX_RULES, MAX_TASKS, Numbers};
-use rank::Table;
+use kernel_bellman::{Room, Sources};
+use kernel_sheet::{MAX_DOORS, Numbers};
+use rank::Pascal;
 
-// How far before the end of its row the cell of the rest behind each of n doors stands.
-fn backs(points: u16, n: u16, depart: &[u16; MAX_DOORS]) -> [u32; MAX_DOORS]
-    requires { Backable points n depart.now }
-    ensures { result ≡ backs_of points n depart.now }
+// How far before the end of its row the cell of the rest behind each door stands.
+fn backs(x: &Numbers) -> [u32; MAX_DOORS]
+    requires { Backable x.now.counts.points x.now.counts.doors x.now.doors.depart }
+    ensures { result ≡ backs_of x.now.counts.points x.now.counts.doors x.now.doors.depart }
 {
-    let mut back = [0u32; MAX_DOORS];
-    let mut d: usize = 0;
-    while d < n as usize {
-        back[d] = points as u32 - depart[d] as u32;
-        d = d + 1;
+    let points = u32::from(x.counts.points);
+    let depart = &x.doors.depart;
+    let mut back = [0; MAX_DOORS];
+    for d in 0..x.counts.doors as usize {
+        back[d] = points - u32::from(depart[d]);
     }
     back
 }
 
 // Writes the row of the essential list k into its layer, from the one below, which shows the lists with one task less.
-fn list_row<'a>(
-    table: &'a Table,
+fn list_row(
+    from: &Sources,
+    table: &Pascal,
     k: u32,
     waiting: u32,
-    x: Counts,
-    change: &'a [i16; MAX_TASKS],
-    sets: &'a [u64; MAX_TASKS],
-    column: &'a [u16; MAX_DOORS],
-    work: &'a [u32; MAX_DOORS],
-    door: &'a [u16; MAX_RULES],
-    watched: &'a [u16; MAX_RULES],
-    least: &'a [u16; MAX_RULES],
-    most: &'a [u16; MAX_RULES],
-    charge: &'a [u32; MAX_RULES],
-    columns: &'a [u64],
-    slot: &'a [u16; MAX_DOORS],
-    back: &'a [u32; MAX_DOORS],
-    sums: &mut [u64; MAX_DOORS],
-    begins: &mut [u16; MAX_DOORS],
-    parts: &mut [u64; MAX_DOORS],
-    below: &'a [u64],
+    room: &mut Room,
+    below: &[u64],
     here: &mut [u64],
 )
-    requires { Tabled table.now × ((S : Sheet) × Listed S x k waiting change.now sets.now column.now work.now door.now watched.now least.now most.now charge.now columns.now × LayerRests S slot.now back.now × Roomy S below.now here.old × ShowsRests S k below.now) }
-    ensures { (S : Sheet) → Listed S x k waiting change.now sets.now column.now work.now door.now watched.now least.now most.now charge.now columns.now → LayerRests S slot.now back.now → ShowsRests S k below.now → here.new ≡ with_row S k here.old }
+    requires { (S : Sheet) × Listed S from.now.numbers.now k waiting from.now.columns.now × LayerRests S from.now.slot.now from.now.back.now × Roomy S below.now here.old × ShowsRests S k below.now }
+    ensures { (S : Sheet) → Listed S from.now.numbers.now k waiting from.now.columns.now → LayerRests S from.now.slot.now from.now.back.now → ShowsRests S k below.now → here.new ≡ with_row S k here.old }
 {
-    let rows = rank::rows(table, k, x.points);
-    let ends = rows.ends;
-    let hand = kernel_list::open(
-        x, k, waiting, change, sets, work, door, watched, least, most, charge, sums,
-    );
-    let m = kernel_gather::gather(
-        hand.doors, column, sums, slot, back, &ends, below, begins, parts,
-    );
-    let from = rows.own;
-    let end = from + x.points as usize;
-    kernel_row::row(columns, hand.load, m, begins, parts, &mut here[from..end]);
+    let points = from.numbers.counts.points;
+    let rows = table.rows(k, points);
+    let row = &mut here[rows.own..rows.own + points as usize];
+    kernel_bellman::list_row(from, k, waiting, &rows.ends, below, room, row);
 }
 
 // Writes the rows of the essential lists of m tasks, in the order of their numbers.
-fn size_rows<'a>(
-    table: &'a Table,
-    m: u16,
-    receivers: &'a [u32; MAX_TASKS],
-    x: Counts,
-    change: &'a [i16; MAX_TASKS],
-    sets: &'a [u64; MAX_TASKS],
-    column: &'a [u16; MAX_DOORS],
-    work: &'a [u32; MAX_DOORS],
-    door: &'a [u16; MAX_RULES],
-    watched: &'a [u16; MAX_RULES],
-    least: &'a [u16; MAX_RULES],
-    most: &'a [u16; MAX_RULES],
-    charge: &'a [u32; MAX_RULES],
-    columns: &'a [u64],
-    slot: &'a [u16; MAX_DOORS],
-    back: &'a [u32; MAX_DOORS],
-    below: &'a [u64],
-    here: &mut [u64],
-)
-    requires { Tabled table.now × ((S : Sheet) × Arrayed S x change.now sets.now column.now work.now door.now watched.now least.now most.now charge.now columns.now × ReceiversOf S receivers.now × LayerRests S slot.now back.now × Roomy S below.now here.old × (1 ≤ m) × (m ≤ S.tasks) × Shows S (m - 1) below.now) }
-    ensures { (S : Sheet) → Arrayed S x change.now sets.now column.now work.now door.now watched.now least.now most.now charge.now columns.now → ReceiversOf S receivers.now → LayerRests S slot.now back.now → Shows S (m - 1) below.now → Shows S m here.new × Kept S (m % 2) here.old here.new }
+fn size_rows(from: &Sources, table: &Pascal, m: u16, below: &[u64], here: &mut [u64])
+    requires { (S : Sheet) × Arrayed S from.now.numbers.now from.now.columns.now × ReceiversOf S from.now.numbers.now.tasks.receivers × LayerRests S from.now.slot.now from.now.back.now × Roomy S below.now here.old × (1 ≤ m) × (m ≤ S.tasks) × Shows S (m - 1) below.now }
+    ensures { (S : Sheet) → Arrayed S from.now.numbers.now from.now.columns.now → ReceiversOf S from.now.numbers.now.tasks.receivers → LayerRests S from.now.slot.now from.now.back.now → Shows S (m - 1) below.now → Shows S m here.new × Kept S (m % 2) here.old here.new }
 {
-    let mut sums = [0u64; MAX_DOORS];
-    let mut begins = [0u16; MAX_DOORS];
-    let mut parts = [0u64; MAX_DOORS];
-    let lists = tasklist::lists(x.tasks);
+    let numbers = from.numbers;
+    let lists = tasklist::lists(numbers.counts.tasks);
+    let mut room = Room::new();
     let mut k = tasklist::full(m);
+    // From each list to the next of its size, so no index is counted. The library's `successors` is endless by its contract, and a `for` over it would not be known to end.
     while k < lists {
-        let waiting = kernel_list::waiting(receivers, k);
+        let waiting = kernel_list::waiting(&numbers.tasks.receivers, k);
         if kernel_list::has_all(k, waiting) {
-            list_row(
-                table,
-                k,
-                waiting,
-                x,
-                change,
-                sets,
-                column,
-                work,
-                door,
-                watched,
-                least,
-                most,
-                charge,
-                columns,
-                slot,
-                back,
-                &mut sums,
-                &mut begins,
-                &mut parts,
-                below,
-                here,
-            );
+            list_row(from, table, k, waiting, &mut room, below, here);
         }
         k = rank::next(k);
     }
 }
 
 // Writes the rows of every essential list, size after size, from the end costs. A layer is overwritten only when the one above has been filled from it.
-// What is lent has one lifetime, since fields of one local can be lent to one call so.
-fn sizes_rows<'a>(
-    receivers: &'a [u32; MAX_TASKS],
-    x: Counts,
-    change: &'a [i16; MAX_TASKS],
-    sets: &'a [u64; MAX_TASKS],
-    column: &'a [u16; MAX_DOORS],
-    work: &'a [u32; MAX_DOORS],
-    door: &'a [u16; MAX_RULES],
-    watched: &'a [u16; MAX_RULES],
-    least: &'a [u16; MAX_RULES],
-    most: &'a [u16; MAX_RULES],
-    charge: &'a [u32; MAX_RULES],
-    columns: &'a [u64],
-    slot: &'a [u16; MAX_DOORS],
-    back: &'a [u32; MAX_DOORS],
-    even: &mut [u64],
-    odd: &mut [u64],
-)
-    requires { (S : Sheet) × Arrayed S x change.now sets.now column.now work.now door.now watched.now least.now most.now charge.now columns.now × ReceiversOf S receivers.now × LayerRests S slot.now back.now × Roomy S even.old odd.old × Shows S 0 even.old }
-    ensures { (S : Sheet) → Arrayed S x change.now sets.now column.now work.now door.now watched.now least.now most.now charge.now columns.now → ReceiversOf S receivers.now → LayerRests S slot.now back.now → Shows S 0 even.old → Half S 0 S.tasks even.old even.new × Half S 1 S.tasks odd.old odd.new }
+fn sizes_rows(from: &Sources, even: &mut [u64], odd: &mut [u64])
+    requires { (S : Sheet) × Arrayed S from.now.numbers.now from.now.columns.now × ReceiversOf S from.now.numbers.now.tasks.receivers × LayerRests S from.now.slot.now from.now.back.now × Roomy S even.old odd.old × Shows S 0 even.old }
+    ensures { (S : Sheet) → Arrayed S from.now.numbers.now from.now.columns.now → ReceiversOf S from.now.numbers.now.tasks.receivers → LayerRests S from.now.slot.now from.now.back.now → Shows S 0 even.old → Half S 0 S.tasks even.old even.new × Half S 1 S.tasks odd.old odd.new }
 {
-    let table = rank::pascal();
-    let n = x.tasks;
-    let mut m: u16 = 0;
-    while m < n {
-        m = m + 1;
+    let table = Pascal::new();
+    for m in 1..=from.numbers.counts.tasks {
         if m % 2 == 0 {
-            size_rows(
-                &table, m, receivers, x, change, sets, column, work, door, watched, least, most,
-                charge, columns, slot, back, odd, even,
-            );
+            size_rows(from, &table, m, odd, even);
         } else {
-            size_rows(
-                &table, m, receivers, x, change, sets, column, work, door, watched, least, most,
-                charge, columns, slot, back, even, odd,
-            );
+            size_rows(from, &table, m, even, odd);
         }
     }
 }
 
 // Fills the layers: the end costs, then size after size the rows of its lists.
-pub fn fill(x: Numbers, columns: &[u64], even: &mut [u64], odd: &mut [u64])
-    requires { (S : Sheet) × Prepared S x columns.now × Roomy S even.old odd.old }
-    ensures { (S : Sheet) → Prepared S x columns.now → LayerFilled S 0 even.old even.new × LayerFilled S 1 odd.old odd.new }
+pub fn fill(x: &Numbers, columns: &[u64], even: &mut [u64], odd: &mut [u64])
+    requires { (S : Sheet) × Prepared S x.now columns.now × Roomy S even.old odd.old }
+    ensures { (S : Sheet) → Prepared S x.now columns.now → LayerFilled S 0 even.old even.new × LayerFilled S 1 odd.old odd.new }
 {
     let points = x.counts.points as usize;
     kernel_row::end_row(&x.ends, &mut even[..points]);
-    let back = backs(x.counts.points, x.counts.doors, &x.doors.depart);
-    sizes_rows(
-        &x.tasks.receivers,
-        x.counts,
-        &x.tasks.change,
-        &x.tasks.doors,
-        &x.doors.column,
-        &x.doors.work,
-        &x.rules.door,
-        &x.rules.watched,
-        &x.rules.least,
-        &x.rules.most,
-        &x.rules.charge,
+    let back = backs(x);
+    let from = Sources {
+        numbers: x,
         columns,
-        &x.doors.task,
-        &back,
-        even,
-        odd,
-    );
+        slot: &x.doors.task,
+        back: &back,
+    };
+    sizes_rows(&from, even, odd);
 }

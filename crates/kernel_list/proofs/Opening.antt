@@ -11,7 +11,7 @@ use Rattle.model.proofs.TaskLists.Lowest.{task_below}
 use Rattle.model.proofs.Theory.FirstTask.{first_bit}
 use Rattle.model.proofs.TaskLists.OpenLists.{watched_same}
 use lib.Bits.{bit_and, and_le_l}
-use Rattle.kernel_sheet.specs.declared.Counts.{Counts}
+use Rattle.kernel_sheet.specs.declared.Numbers.{Numbers}
 use Rattle.kernel_sheet.specs.Prepared.{sends, serves, ReceiversOf, ChangesOf, RulesOf}
 use Rattle.kernel_list.specs.Lists.{union_of, watch_bits, sum_of_below, sum_of, Loadable, times_by, times_of, charged_at, sum_at, Chargeable, Waiting, Opening, Opened}
 use Rattle.kernel_list.proofs.Unions.{union_member, without_all}
@@ -117,8 +117,7 @@ charge_is S K i doors watches leasts mosts charged h l k few =
     (λ w. let m : min (watched_in S.tasks (S.watched i) K + 1 - S.least_count i) 1 ≡ 1 = omega (arith, leb-true (S.least_count i) (watched_in S.tasks (S.watched i) K) w) in rw (w, m) (omega arith))
     (λ w. let m : min (watched_in S.tasks (S.watched i) K + 1 - S.least_count i) 1 ≡ 0 = omega (arith, leb-false (S.least_count i) (watched_in S.tasks (S.watched i) K) w) in rw (w, m) (omega arith)))
 
-module _ {S : Sheet} {x : Counts} {K r : ℕ} {changes : List ℤ} {sets works doors watches leasts mosts charged : List ℕ}
-    (h : Opening S x K r changes sets works doors watches leasts mosts charged) where
+module _ {S : Sheet} {x : Numbers} {K r : ℕ} (h : Opening S x K r) where
   few : S.tasks ≤ max_tasks
   few = h.workable.counts.tasks
 
@@ -129,17 +128,17 @@ module _ {S : Sheet} {x : Counts} {K r : ℕ} {changes : List ℤ} {sets works d
   pub firsts_small : (J : ℕ) → bit_and K J < 2 ^ max_tasks
   firsts_small J = lt_of_le_of_lt (and_le_l K J) (lt_of_lt_of_le h.list (pow_mono few))
 
-  sum_is : sum_of x.end_load changes K ≡ load S K
-  sum_is = rw h.counts.end_load (load_is S changes K h.change h.list few)
+  sum_is : sum_of x.counts.end_load x.tasks.change K ≡ load S K
+  sum_is = rw h.counts.end_load (load_is S x.tasks.change K h.change h.list few)
 
-  pub loadable : Loadable x.end_load changes K
+  pub loadable : Loadable x.counts.end_load x.tasks.change K
   loadable = record {
     list = lt_of_lt_of_le h.list (pow_mono few);
     small = λ t l e. let m = below S K t h.list e in rw (h.change t m) (h.workable.change t m);
     holds = rw sum_is (h.workable.loads K h.list h.ess);
   }
 
-  pub chargeable : {sums : List ℕ} → length sums ≡ max_doors → Chargeable works doors charged x.doors x.rules sums
+  pub chargeable : {sums : List ℕ} → length sums ≡ max_doors → Chargeable x.doors.work x.rules.door x.rules.charge x.counts.doors x.counts.rules sums
   chargeable size = rw (h.counts.doors, h.counts.rules) (record {
     size = size;
     few_doors = h.workable.counts.doors;
@@ -149,21 +148,21 @@ module _ {S : Sheet} {x : Counts} {K r : ℕ} {changes : List ℤ} {sets works d
     charge = λ i l. rw (h.rules.charge i l) (h.workable.charge i l);
   })
 
-  sum_at_lem : (d : ℕ) → d < S.doors → sum_at works doors watches leasts mosts charged S.rules K d ≡ S.work d + charges S K d
+  sum_at_lem : (d : ℕ) → d < S.doors → sum_at x.doors.work x.rules.door x.rules.watched x.rules.least x.rules.most x.rules.charge S.rules K d ≡ S.work d + charges S K d
   unfolding sum_at charged_at charges
   sum_at_lem d l = ap₂ ◌+◌ (h.work d l) (sum_cong S.rules _ _ (λ i m.
-      ap₂ (λ (e y : ℕ). cond (eqb e d) y 0) (h.rules.door i m) (charge_is S K i doors watches leasts mosts charged h.rules m h.list (omega (arith, few)))))
+      ap₂ (λ (e y : ℕ). cond (eqb e d) y 0) (h.rules.door i m) (charge_is S K i x.rules.door x.rules.watched x.rules.least x.rules.most x.rules.charge h.rules m h.list (omega (arith, few)))))
 
-  module _ {set : ℕ} (e : set ≡ union_of sets (bit_and K (2 ^ mask_bits - 1 - r))) (small : r < 2 ^ mask_bits) where
+  module _ {set : ℕ} (e : set ≡ union_of x.tasks.doors (bit_and K (2 ^ mask_bits - 1 - r))) (small : r < 2 ^ mask_bits) where
     abbrev offers : ℕ → ℕ → Bool
-    offers d t = member (bit_and K (2 ^ mask_bits - 1 - r)) t && member (get_or sets t 0) d
+    offers d t = member (bit_and K (2 ^ mask_bits - 1 - r)) t && member (get_or x.tasks.doors t 0) d
 
     can : (t : ℕ) → t < max_tasks → member (bit_and K (2 ^ mask_bits - 1 - r)) t ≡ can_come_first S K t
     can t l = without_all mask_bits K r t small (omega (arith, l)) ∙ first_is S K r h.waiting t
 
     doors_are : (d : ℕ) → member set d ≡ (ltb d S.doors && can_come_first S K (S.task d))
     unfolding union_of serves
-    doors_are d = ap (λ (y : ℕ). member y d) e ∙ union_member sets _ max_tasks d ∙ same_test _ _
+    doors_are d = ap (λ (y : ℕ). member y d) e ∙ union_member x.tasks.doors _ max_tasks d ∙ same_test _ _
         (λ a.
         let t = one_passes max_tasks (offers d) a in
         let c = sym (can t.0 t.1) ∙ and_left (member (bit_and K (2 ^ mask_bits - 1 - r)) t.0) _ t.2 in
@@ -176,8 +175,8 @@ module _ {S : Sheet} {x : Counts} {K r : ℕ} {changes : List ℤ} {sets works d
         any_true max_tasks (offers d) (S.task d) n
         (and_both (can (S.task d) n ∙ and_right (ltb d S.doors) _ a) (h.set (S.task d) d m ∙ and_both l (eq-eqb (S.task d) _ refl))))
 
-    pub opened : {w : ℕ} {before after : List ℕ} → pos w ≡ sum_of x.end_load changes K
-        → after ≡ overwrite (map_below x.doors (sum_at works doors watches leasts mosts charged x.rules K)) before → Opened S K w set before after
+    pub opened : {w : ℕ} {before after : List ℕ} → pos w ≡ sum_of x.counts.end_load x.tasks.change K
+        → after ≡ overwrite (map_below x.counts.doors (sum_at x.doors.work x.rules.door x.rules.watched x.rules.least x.rules.most x.rules.charge x.counts.rules K)) before → Opened S K w set before after
     opened {w} {before} p q = record {
       load = ap nat_abs (p ∙ sum_is);
       doors = doors_are;

@@ -1,6 +1,6 @@
 -- The union of what the tasks of a list have, task by task, and what is in it; and masks that the code tells by: whether one has all of another, and one without another.
 -- Assumes nothing.
-use Rattle.model.proofs.Basics.{◌≡◌, sym, ap, ◌∙◌, Bool, true, false, not, ◌&&◌, ◌||◌, List, ℕ, zero, suc, ◌+◌, ◌-◌, ◌/◌, ◌^◌, ◌<◌, min, arith, eqb, get_or}
+use Rattle.model.proofs.Basics.{◌≡◌, ap, ◌∙◌, Bool, not, ◌&&◌, ◌||◌, List, ℕ, zero, suc, ◌+◌, ◌-◌, ◌/◌, ◌^◌, ◌<◌, min, arith, eqb, get_or}
 use Rattle.model.proofs.Basics.{eqb-true, eq-eqb, add-one}
 use Rattle.model.specs.{all_below, any_below, bit, member, max_tasks}
 use Rattle.model.proofs.Tools.Tests.{by_test, same_test, all_at, all_below_lem, implied}
@@ -12,18 +12,11 @@ use lib.Bits.{bit_and, bit_or, or_shr, or_step, and_le_r}
 use native.Mathlib.Nat.{lt_of_le_of_lt}
 use Rattle.kernel_list.specs.Lists.{union_below, union_of}
 
--- ---- task by task: r is what the code finds of task n
+-- ---- task by task
 
-module _ (xs : List ℕ) (K n : ℕ) {all : ℕ} {r : Bool} (h : all ≡ union_below xs K n) (m : r ≡ member K n) where
-  pub joined_in : r ≡ true → bit_or all (get_or xs n 0) ≡ union_below xs K (n + 1)
-  joined_in o = rw (add-one, sym m ∙ o, h)
-
-  pub passed_over : r ≡ false → all ≡ union_below xs K (n + 1)
-  passed_over o = rw (add-one, sym m ∙ o) h
-
--- a walk takes it, and passes over the others
-pub walk_in : (xs : List ℕ) (K n : ℕ) {all : ℕ} → all ≡ union_below xs K n → bit K n ≡ 1 → bit_or all (get_or xs n 0) ≡ union_below xs K (suc n)
-walk_in xs K n h b = rw (b, h)
+-- a walk takes a task of the list, and passes over the others
+pub walk_in : (xs : List ℕ) (K n : ℕ) {all : ℕ} → all ≡ union_below xs K n → bit K n ≡ 1 → bit_or all (get_or xs n 0) ≡ union_below xs K (n + 1)
+walk_in xs K n h b = rw (add-one, b, h)
 
 pub not_in : (xs : List ℕ) (K n : ℕ) → bit K n ≡ 0 → union_below xs K (suc n) ≡ union_below xs K n
 not_in xs K n b = rw b

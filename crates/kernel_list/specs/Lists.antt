@@ -11,7 +11,7 @@ use Rattle.model.specs.Method.{can_come_first}
 use Rattle.model.specs.Cost.{load, charges}
 use Rattle.model.specs.Bytes.{overwrite}
 use Rattle.model.specs.SheetLayout.{max_tasks, max_doors, max_rules}
-use Rattle.kernel_sheet.specs.declared.Counts.{Counts}
+use Rattle.kernel_sheet.specs.declared.Numbers.{Numbers}
 use Rattle.kernel_sheet.specs.Prepared.{CountsOf, ChangesOf, SetsOf, WorksOf, RulesOf, Workable}
 
 -- ---- of any arrays
@@ -84,17 +84,17 @@ pub record Chargeable (works doors charges : List ℕ) (n rules : ℕ) (sums : L
 abbrev pub Waiting : Sheet → ℕ → ℕ → Type 0
 Waiting S K r = (j : ℕ) → member r j ≡ any_below S.pairs (λ i. member K (S.sender i) && eqb (S.receiver i) j)
 
--- what opening a list asks: some sheet that the arrays are of, an essential list of it, and who waits for its tasks
-pub record Opening (S : Sheet) (x : Counts) (K r : ℕ) (changes : List ℤ) (sets works doors watches leasts mosts charges : List ℕ) : Type 0 where
+-- what opening a list asks: some sheet that the numbers read here are of, an essential list of it, and who waits for its tasks
+pub record Opening (S : Sheet) (x : Numbers) (K r : ℕ) : Type 0 where
   pub workable : Workable S
-  pub counts : CountsOf S x
+  pub counts : CountsOf S x.counts
   pub list : K < 2 ^ S.tasks
   pub ess : essential S K ≡ true
   pub waiting : Waiting S K r
-  pub change : ChangesOf S changes
-  pub set : SetsOf S sets
-  pub work : WorksOf S works
-  pub rules : RulesOf S doors watches leasts mosts charges
+  pub change : ChangesOf S x.tasks.change
+  pub set : SetsOf S x.tasks.doors
+  pub work : WorksOf S x.doors.work
+  pub rules : RulesOf S x.rules.door x.rules.watched x.rules.least x.rules.most x.rules.charge
 
 -- what a list has once it is open: its load, the doors whose task can come first, and at the front of the sums, for each door, its work and its charges
 pub record Opened (S : Sheet) (K weight set : ℕ) (before after : List ℕ) : Type 0 where

@@ -1,5 +1,5 @@
 -- What is prepared are the numbers of the sheet, which the kernel can work on. Assumes nothing.
-use Rattle.model.proofs.Basics.{◌≡◌, refl, ◌∙◌, ◌&&◌, List, ℕ, ◌*◌, ◌<◌, arith, eqb, ltb, pos, true, ◌^◌, ◌≤◌, ℤ, negsuc, are_bytes, mag}
+use Rattle.model.proofs.Basics.{◌≡◌, refl, ◌∙◌, ◌&&◌, List, ℕ, ◌*◌, ◌<◌, arith, eqb, ltb, pos, true, ◌^◌, ◌≤◌, ℤ, negsuc, are_bytes, mag, length}
 use Rattle.model.proofs.Basics.{eqb-true, eq-eqb, ltb-true, lt-ltb}
 use Rattle.model.specs.{any_below, overwrite, max_tasks, max_doors, max_starts, max_rules, max_points, CountsWithin, InRange, up, down, decode}
 use Rattle.model.specs.Sheet.{Sheet}
@@ -13,7 +13,7 @@ use Rattle.kernel_sheet.specs.Prepared.{NumbersOf, Workable, Prepared, sends, se
 use Rattle.kernel_columns.specs.ByColumns.{columns_of}
 use Rattle.kernel_columns.proofs.Entries.{columns_held}
 use Rattle.kernel_prepare.specs.Preparing.{receivers_below, doors_below, counts_of, tasks_of, doors_of, rules_of, numbers_of}
-use Rattle.kernel_prepare.proofs.Padding.{padded_at}
+use Rattle.kernel_prepare.proofs.Padding.{padded_at, length_padded}
 use Rattle.kernel_prepare.proofs.Joining.{receivers_join, doors_join, joined_member}
 
 module _ (S : Sheet) where
@@ -55,6 +55,11 @@ module _ (S : Sheet) where
     starts = padded_at 0 max_starts S.starts S.start_point;
     ends = padded_at 0 max_points S.points S.end_cost;
   }
+
+  -- there is room for the starts
+  pub starts_room : {x : Numbers} → x ≡ numbers_of S → CountsWithin S → S.starts ≤ length x.starts
+  unfolding numbers_of
+  starts_room e W = rw (e, length_padded 0 max_starts S.starts S.start_point W.starts) W.starts
 
 -- ---- a sheet that reads
 

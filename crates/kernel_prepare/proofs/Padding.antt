@@ -1,6 +1,7 @@
 -- Arrays that a loop fills from the front: an element of each entry, and behind them the number for nothing. Assumes nothing.
-use Rattle.model.proofs.Basics.{◌≡◌, refl, sym, ap, ◌∙◌, List, ℕ, suc, ◌+◌, ◌≤◌, ◌<◌, add-one, arith, get_or, drop, set, replicate, length-replicate}
+use Rattle.model.proofs.Basics.{◌≡◌, refl, sym, ap, ◌∙◌, List, ℕ, suc, ◌+◌, ◌≤◌, ◌<◌, add-one, arith, length, get_or, drop, set, replicate, length-replicate, length-append}
 use Rattle.model.proofs.Basics.{append_snoc, drop-cons, set_at, List·getD-append}
+use lib.ListN.{length-drop}
 use Rattle.model.specs.{map_below}
 use Rattle.model.proofs.Tools.Folds.{length_map_below, map_below_at}
 use Rattle.kernel_prepare.specs.Preparing.{padded}
@@ -36,3 +37,7 @@ module _ {A : Type 0} {none : A} {room n : ℕ} {f : ℕ → A} where
 pub padded_at : {A : Type 0} (none : A) (room n : ℕ) (f : ℕ → A) (i : ℕ) → i < n → get_or (padded none room n f) i none ≡ f i
 padded_at none room n f i l =
     List·getD-append (map_below n f) (drop n (replicate room none)) none i (rw length_map_below l) ∙ map_below_at n f i none l
+
+-- and the place of them all
+pub length_padded : {A : Type 0} (none : A) (room n : ℕ) (f : ℕ → A) → n ≤ room → length (padded none room n f) ≡ room
+length_padded none room n f l = rw (length-append, length_map_below n f, length-drop n (replicate room none), length-replicate) (omega arith)

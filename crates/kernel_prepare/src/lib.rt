@@ -1,183 +1,140 @@
 // What the kernel works with, prepared from a sheet: the only place of it that knows bytes, a view and a kind.
 #![tactic(auto)]
 
-ghost use Rattle.std.specs.Prelude.{◌≡◌, pos};
+ghost use Rattle.std.specs.Prelude.{◌≡◌, ◌≤◌, ◌<◌, ℕ, ◌*◌};
 ghost use Rattle.model.specs.Folds.{map_below};
-ghost use Rattle.model.specs.SheetLayout.{max_tasks, max_starts, max_points, decode};
+ghost use Rattle.model.specs.SheetLayout.{max_tasks};
 ghost use Rattle.model.specs.Passing.{CountsWithin, InRange};
-ghost use Rattle.view.specs.Views.{Viewed};
-ghost use Rattle.kernel_prepare.specs.Preparing.{padded, receivers_below, doors_below, doors_of, rules_of, numbers_of};
+ghost use Rattle.view.specs.Sheets.{sheet_of};
+ghost use Rattle.kernel_prepare.specs.Preparing.{padded, receivers_below, doors_below, tasks_of, doors_of, rules_of, numbers_of};
 
-use kernel_sheet::{
-    Counts, Doors, MAX_DOORS, MAX_POINTS, MAX_RULES, MAX_STARTS, MAX_TASKS, Numbers, Rules, Tasks,
-};
-use view::View;
+use kernel_sheet::{Counts, Doors, MAX_TASKS, Numbers, Rules, Tasks};
+use view::TaskSheet;
 
-// Of each task its change.
-fn changes(s: &[u8], v: View) -> [i16; MAX_TASKS]
-    requires { Viewed s.now v × CountsWithin (decode s.now) }
-    ensures { result ≡ padded (pos 0) max_tasks (decode s.now).tasks (decode s.now).change }
+// An array of an element for each of the n entries, and behind them of the number for nothing.
+fn padded<T: Copy, const N: usize, F: Fn(u16) -> T>(n: u16, none: T, element: F) -> [T; N]
+    requires fits { n ≤ N }
+    requires callable { (i : ℕ) → i < n → F.pre element i }
+    ensures { (f : ℕ → T) → ((i : ℕ) (x : T) → i < n → F.post element i x → x ≡ f i) → result ≡ padded none N n f }
 {
-    let tasks = v.tasks;
-    let mut change = [0i16; MAX_TASKS];
-    let mut t: u16 = 0;
-    while t < tasks {
-        change[t as usize] = view::change(s, v, t);
-        t = t + 1;
+    let mut elements = [none; N];
+    for i in 0..n {
+        elements[i as usize] = element(i);
     }
-    change
+    elements
 }
 
-// Of each task the receivers of the pairs whose sender it is.
-fn receivers(s: &[u8], v: View) -> [u32; MAX_TASKS]
-    requires { Viewed s.now v × CountsWithin (decode s.now) × InRange (decode s.now) }
-    ensures { result ≡ map_below max_tasks (receivers_below (decode s.now) (decode s.now).pairs) }
-{
-    let pairs = v.pairs;
-    let mut receivers = [0u32; MAX_TASKS];
-    let mut i: u16 = 0;
-    while i < pairs {
-        let from = view::sender(s, v, i) as usize;
-        receivers[from] = tasklist::with(receivers[from], view::receiver(s, v, i));
-        i = i + 1;
-    }
-    receivers
+// A sheet whose counts have room here, and whose entries name others that there are.
+#[derive(Clone, Copy)]
+struct Ranged<'a> {
+    sheet: TaskSheet<'a>,
+    ghost counts: { CountsWithin (sheet_of sheet) },
+    ghost ranges: { InRange (sheet_of sheet) },
 }
 
-// Of each task its doors.
-fn doors_of_tasks(s: &[u8], v: View) -> [u64; MAX_TASKS]
-    requires { Viewed s.now v × CountsWithin (decode s.now) × InRange (decode s.now) }
-    ensures { result ≡ map_below max_tasks (doors_below (decode s.now) (decode s.now).doors) }
-{
-    let n = v.doors;
-    let mut doors = [0u64; MAX_TASKS];
-    let mut d: u16 = 0;
-    while d < n {
-        let t = view::task(s, v, d) as usize;
-        doors[t] = doors[t] | (1u64 << d);
-        d = d + 1;
+impl<'a> Ranged<'a> {
+    // Of each task the receivers of the pairs whose sender it is.
+    #[tactic(auto, using(view::proofs::Counted::pairs_are))]
+    fn receivers(&self) -> [u32; MAX_TASKS]
+        ensures { result ≡ map_below max_tasks (receivers_below (sheet_of self.now.sheet) (sheet_of self.now.sheet).pairs) }
+    {
+        let sheet = &self.sheet;
+        let mut receivers = [0; MAX_TASKS];
+        for i in 0..sheet.view.pairs {
+            let from = sheet.sender(i) as usize;
+            receivers[from] = tasklist::with(receivers[from], sheet.receiver(i));
+        }
+        receivers
     }
-    doors
-}
 
-// Of each door its numbers.
-fn doors(s: &[u8], v: View) -> Doors
-    requires { Viewed s.now v × CountsWithin (decode s.now) × InRange (decode s.now) }
-    ensures { result ≡ doors_of (decode s.now) }
-{
-    let n = v.doors;
-    let points = v.points;
-    let mut column = [0u16; MAX_DOORS];
-    let mut task = [0u16; MAX_DOORS];
-    let mut depart = [0u16; MAX_DOORS];
-    let mut work = [0u32; MAX_DOORS];
-    let mut d: u16 = 0;
-    while d < n {
-        let i = d as usize;
-        column[i] = view::arrive(s, v, d) * points;
-        task[i] = view::task(s, v, d);
-        depart[i] = view::depart(s, v, d);
-        work[i] = view::work(s, v, d);
-        d = d + 1;
+    // Of each task its doors. No one function with `receivers`: its masks are of 32 bits, these of 64, and a trait for both is longer than the two loops.
+    #[tactic(auto, using(view::proofs::Counted::doors_are))]
+    fn doors_of_tasks(&self) -> [u64; MAX_TASKS]
+        ensures { result ≡ map_below max_tasks (doors_below (sheet_of self.now.sheet) (sheet_of self.now.sheet).doors) }
+    {
+        let sheet = &self.sheet;
+        let mut doors = [0; MAX_TASKS];
+        for d in 0..sheet.view.doors {
+            let t = sheet.task(d) as usize;
+            doors[t] |= 1 << d;
+        }
+        doors
     }
-    Doors {
-        column: column,
-        task: task,
-        depart: depart,
-        work: work,
-    }
-}
 
-// Of each access rule its numbers.
-fn rules(s: &[u8], v: View) -> Rules
-    requires { Viewed s.now v × CountsWithin (decode s.now) }
-    ensures { result ≡ rules_of (decode s.now) }
-{
-    let n = v.rules;
-    let mut door = [0u16; MAX_RULES];
-    let mut watched = [0u16; MAX_RULES];
-    let mut least = [0u16; MAX_RULES];
-    let mut most = [0u16; MAX_RULES];
-    let mut charge = [0u32; MAX_RULES];
-    let mut r: u16 = 0;
-    while r < n {
-        let i = r as usize;
-        door[i] = view::rule_door(s, v, r);
-        watched[i] = view::watched(s, v, r);
-        least[i] = view::least_count(s, v, r);
-        most[i] = 1;
-        charge[i] = view::charge(s, v, r);
-        r = r + 1;
+    // Of each task its numbers.
+    #[tactic(auto, using(view::proofs::Counted::tasks_are))]
+    fn tasks(&self) -> Tasks
+        ensures { result ≡ tasks_of (sheet_of self.now.sheet) }
+    {
+        let sheet = &self.sheet;
+        Tasks {
+            change: padded(sheet.view.tasks, 0, |t| sheet.change(t)),
+            receivers: self.receivers(),
+            doors: self.doors_of_tasks(),
+        }
     }
-    Rules {
-        door: door,
-        watched: watched,
-        least: least,
-        most: most,
-        charge: charge,
-    }
-}
 
-// Of each start its point.
-fn starts(s: &[u8], v: View) -> [u16; MAX_STARTS]
-    requires { Viewed s.now v × CountsWithin (decode s.now) }
-    ensures { result ≡ padded 0 max_starts (decode s.now).starts (decode s.now).start_point }
-{
-    let n = v.starts;
-    let mut starts = [0u16; MAX_STARTS];
-    let mut i: u16 = 0;
-    while i < n {
-        starts[i as usize] = view::start_point(s, v, i);
-        i = i + 1;
+    // Where the column of the arrival point of a door begins.
+    fn column(&self, d: u16) -> u16
+        requires { d < (sheet_of self.now.sheet).doors }
+        ensures { result ≡ (sheet_of self.now.sheet).arrive d * (sheet_of self.now.sheet).points }
+    {
+        self.sheet.arrive(d) * self.sheet.view.points
     }
-    starts
-}
 
-// Of each point its end cost.
-fn ends(s: &[u8], v: View) -> [u64; MAX_POINTS]
-    requires { Viewed s.now v × CountsWithin (decode s.now) }
-    ensures { result ≡ padded 0 max_points (decode s.now).points (decode s.now).end_cost }
-{
-    let points = v.points;
-    let mut ends = [0u64; MAX_POINTS];
-    let mut p: u16 = 0;
-    while p < points {
-        ends[p as usize] = view::end_cost(s, v, p) as u64;
-        p = p + 1;
+    // Of each door its numbers.
+    #[tactic(auto, using(view::proofs::Counted::doors_are))]
+    fn doors(&self) -> Doors
+        ensures { result ≡ doors_of (sheet_of self.now.sheet) }
+    {
+        let sheet = &self.sheet;
+        let n = sheet.view.doors;
+        Doors {
+            column: padded(n, 0, |d| self.column(d)),
+            task: padded(n, 0, |d| sheet.task(d)),
+            depart: padded(n, 0, |d| sheet.depart(d)),
+            work: padded(n, 0, |d| sheet.work(d)),
+        }
     }
-    ends
+
+    // Of each access rule its numbers.
+    #[tactic(auto, using(view::proofs::Counted::rules_are))]
+    fn rules(&self) -> Rules
+        ensures { result ≡ rules_of (sheet_of self.now.sheet) }
+    {
+        let sheet = &self.sheet;
+        let n = sheet.view.rules;
+        Rules {
+            door: padded(n, 0, |r| sheet.rule_door(r)),
+            watched: padded(n, 0, |r| sheet.watched(r)),
+            least: padded(n, 0, |r| sheet.least_count(r)),
+            most: padded(n, 0, |_| 1),
+            charge: padded(n, 0, |r| sheet.charge(r)),
+        }
+    }
 }
 
 // The numbers of a sheet, all but the distances.
-pub fn numbers(s: &[u8], v: View) -> Numbers
-    requires { Viewed s.now v × CountsWithin (decode s.now) × InRange (decode s.now) }
-    ensures { result ≡ numbers_of (decode s.now) }
+#[tactic(auto, using(view::proofs::Counted::starts_are, view::proofs::Counted::points_are))]
+pub fn numbers(sheet: &TaskSheet) -> Numbers
+    requires { CountsWithin (sheet_of sheet.now) × InRange (sheet_of sheet.now) }
+    ensures { result ≡ numbers_of (sheet_of sheet.now) }
 {
-    let end_load = view::end_load(s, v);
-    let change = changes(s, v);
-    let receivers = receivers(s, v);
-    let of_tasks = doors_of_tasks(s, v);
-    let doors = doors(s, v);
-    let rules = rules(s, v);
-    let starts = starts(s, v);
-    let ends = ends(s, v);
+    let ranged = Ranged { sheet: *sheet };
+    let view = sheet.view;
     Numbers {
         counts: Counts {
-            end_load: end_load,
-            tasks: v.tasks,
-            doors: v.doors,
-            starts: v.starts,
-            rules: v.rules,
-            points: v.points,
+            end_load: sheet.end_load(),
+            tasks: view.tasks,
+            doors: view.doors,
+            starts: view.starts,
+            rules: view.rules,
+            points: view.points,
         },
-        tasks: Tasks {
-            change: change,
-            receivers: receivers,
-            doors: of_tasks,
-        },
-        doors: doors,
-        rules: rules,
-        starts: starts,
-        ends: ends,
+        tasks: ranged.tasks(),
+        doors: ranged.doors(),
+        rules: ranged.rules(),
+        starts: padded(view.starts, 0, |i| sheet.start_point(i)),
+        ends: padded(view.points, 0, |p| sheet.end_cost(p) as u64),
     }
 }

@@ -9,23 +9,24 @@ ghost use Rattle.minimum.specs.Floats.{Holds};
 ghost use Rattle.kernel_row.specs.Leasts.{no_cost, least_from, Rowable};
 ghost use Rattle.kernel_row.specs.Held.{Held, Column};
 
-use kernel_sheet::{MAX_DOORS, MAX_POINTS};
+use kernel_sheet::{MAX_POINTS, Way};
 
-// More than any cost: 2^60.
-const NO_COST: u64 = 1152921504606846976;
+// More than any cost.
+const NO_COST: u64 = 1 << 60;
 
-// The least with one door more. The remainder is the distance: it tells the compiler that 32 bits are enough.
+// The least with one door more. The cast tells the compiler that 32 bits are enough for the distance.
 fn lowered(least: f64, distance: u64, load: u32, part: u64) -> f64
     requires { (distance < 2 ^ 32) × (distance * load + part < no_cost) × ((n : ℕ) × Holds least n) }
     ensures { (n : ℕ) → Holds least n → Holds result (min n (distance * load + part)) }
 {
     minimum::lesser(
         least,
-        minimum::float_of(distance % 4294967296 * load as u64 + part),
+        minimum::float_of(distance as u32 as u64 * load as u64 + part),
     )
 }
 
-// Lowers the least of each point by two doors more, with the columns of the points where they arrive.
+// Lowers the least of each point by two doors more, with the columns of the points where they arrive. By place: of what is written through `iter_mut` a proof knows the length
+// alone.
 fn lower(
     first: &[u64],
     second: &[u64],
@@ -37,56 +38,40 @@ fn lower(
     requires { Column (length leasts.old) first.now load first_part × Column (length leasts.old) second.now load second_part × ((f : ℕ → ℕ) × Held f (length leasts.old) leasts.old) }
     ensures { (f : ℕ → ℕ) → Held f (length leasts.old) leasts.old → Held (λ p. min (min (f p) (get_or first.now p 0 * load + first_part)) (get_or second.now p 0 * load + second_part)) (length leasts.old) leasts.new }
 {
-    let mut p: usize = 0;
-    while p < leasts.len() {
+    for p in 0..leasts.len() {
         let least = lowered(leasts[p], first[p], load, first_part);
         leasts[p] = lowered(least, second[p], load, second_part);
-        p = p + 1;
     }
 }
 
-// Writes the numbers that stand in the floats.
+// Writes the numbers that stand in the floats, by place for the same reason.
 fn settle(leasts: &[f64], out: &mut [u64])
     requires { (length leasts.now ≡ length out.old) × ((f : ℕ → ℕ) × Held f (length out.old) leasts.now) }
     ensures { (f : ℕ → ℕ) → Held f (length out.old) leasts.now → out.new ≡ map_below (length out.old) f }
 {
-    let mut p: usize = 0;
-    while p < out.len() {
+    for p in 0..out.len() {
         out[p] = minimum::number_of(leasts[p]);
-        p = p + 1;
     }
 }
 
-// Writes the row: from each point the least over the m doors that were gathered, two doors after two. The last of an odd number of doors is taken twice, which changes no least.
-pub fn row(
-    columns: &[u64],
-    load: u32,
-    m: usize,
-    begins: &[u16; MAX_DOORS],
-    parts: &[u64; MAX_DOORS],
-    out: &mut [u64],
-)
-    requires { Rowable columns.now (length out.old) load m begins.now parts.now }
-    ensures { out.new ≡ map_below (length out.old) (least_from columns.now load m begins.now parts.now) }
+// Writes the row: from each point the least over the doors that were gathered, two doors after two. The last of an odd number of doors is taken twice, which changes no least.
+pub fn row(columns: &[u64], load: u32, ways: &[Way], out: &mut [u64])
+    requires { Rowable columns.now (length out.old) load ways.now }
+    ensures { out.new ≡ map_below (length out.old) (least_from columns.now load ways.now) }
 {
     let points = out.len();
     let mut leasts = [minimum::float_of(NO_COST); MAX_POINTS];
-    let mut i: usize = 0;
-    while i < m {
-        let j = if i + 1 < m { i + 1 } else { i };
-        let a = begins[i] as usize;
-        let b = begins[j] as usize;
-        let c = a + points;
-        let d = b + points;
+    for pair in ways.chunks(2) {
+        let first = pair[0];
+        let second = pair[pair.len() - 1];
         lower(
-            &columns[a..c],
-            &columns[b..d],
+            &columns[first.begin as usize..][..points],
+            &columns[second.begin as usize..][..points],
             load,
-            parts[i],
-            parts[j],
+            first.part,
+            second.part,
             &mut leasts[..points],
         );
-        i = i + 2;
     }
     settle(&leasts[..points], out);
 }
@@ -96,9 +81,6 @@ pub fn end_row(ends: &[u64; MAX_POINTS], out: &mut [u64])
     requires { length out.old ≤ max_points }
     ensures { out.new ≡ map_below (length out.old) (λ p. get_or ends.now p 0) }
 {
-    let mut p: usize = 0;
-    while p < out.len() {
-        out[p] = ends[p];
-        p = p + 1;
-    }
+    let points = out.len();
+    out.copy_from_slice(&ends[..points]);
 }

@@ -1,7 +1,7 @@
 // A sheet as the kernel has it: plain numbers in arrays, prepared once a call. The kernel knows no bytes, no view and no kind.
-// The most entries of each body.
 #![tactic(auto)]
 
+// The most entries of each body.
 pub const MAX_TASKS: usize = 12;
 
 pub const MAX_DOORS: usize = 64;
@@ -62,4 +62,11 @@ pub struct Numbers {
     pub rules: Rules,
     pub starts: [u16; MAX_STARTS],
     pub ends: [u64; MAX_POINTS],
+}
+
+// A door that was gathered: where the column of its arrival point begins, and the part of its cost that does not hang on the point.
+#[derive(Clone, Copy)]
+pub struct Way {
+    pub begin: u16,
+    pub part: u64,
 }

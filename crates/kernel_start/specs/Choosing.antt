@@ -15,9 +15,9 @@ unfoldable pub first_start : Sheet → List ℕ → Option ℕ
 first_start S row = first_least (start_cost S row) (passing_below S.starts (λ s. true))
 
 -- what the choice asks: the starts of some sheet, at least one and no more than there is room for, and for each a cell of the row
-pub record Startable (S : Sheet) (starts : List ℕ) (n : ℕ) (row : List ℕ) : Type 0 where
+pub record Startable (S : Sheet) (starts row : List ℕ) : Type 0 where
   pub points : StartsOf S starts
-  pub count : n ≡ S.starts
+  pub count : length starts ≡ S.starts
   pub one_start : 1 ≤ S.starts
   pub few : S.starts ≤ max_starts
   pub held : (s : ℕ) → s < S.starts → S.start_point s < length row

@@ -6,25 +6,19 @@ ghost use Rattle.std.proofs.Math.Option.{some};
 ghost use Rattle.model.specs.Sheet.{Sheet};
 ghost use Rattle.kernel_start.specs.Choosing.{first_start, Startable};
 
-use kernel_sheet::MAX_STARTS;
-
-// The first of n starts from which the whole round costs least.
-pub fn first_start(starts: &[u16; MAX_STARTS], n: u16, row: &[u64]) -> u16
-    requires { (S : Sheet) × Startable S starts.now n row.now }
-    ensures { (S : Sheet) → Startable S starts.now n row.now → some result ≡ first_start S row.now }
+// The first of the starts from which the whole round costs least. By `for`, since of `min_by_key` a None would be left that no sheet gives.
+pub fn first_start(starts: &[u16], row: &[u64]) -> u16
+    requires { (S : Sheet) × Startable S starts.now row.now }
+    ensures { (S : Sheet) → Startable S starts.now row.now → some result ≡ first_start S row.now }
 {
-    let first = starts[0] as usize;
-    let mut best: u16 = 0;
-    let mut least = row[first];
-    let mut i: u16 = 1;
-    while i < n {
-        let p = starts[i as usize] as usize;
-        let c = row[p];
+    let mut best = 0;
+    let mut least = row[starts[0] as usize];
+    for i in 1..starts.len() {
+        let c = row[starts[i] as usize];
         if c < least {
             best = i;
             least = c;
         }
-        i = i + 1;
     }
-    best
+    best as u16
 }

@@ -3,8 +3,9 @@ use Rattle.model.proofs.Basics.{◌≡◌, refl, sym, ap, ap₂, ◌∙◌, ◌�
 use Rattle.model.proofs.Basics.{◌%◌, ◌^◌, ◌≤◌, ◌<◌, arith, eqb, ltb, length, get_or, drop}
 use Rattle.model.proofs.Basics.{ext_get_or, eqb-true, eqb-false, ne_eqb, ltb-true, ltb-false, lt-ltb, le-ltb}
 use Rattle.model.proofs.Basics.{mul-le-mul_right, pow_pos}
-use Rattle.model.specs.{map_below, essential, pairs_allow, cost_to_go, overwrite, overwrite_at, cell_after, cells_needed, cells_after, InRange}
+use Rattle.model.specs.{map_below, essential, pairs_allow, cost_to_go, overwrite, overwrite_at, cell_after, cells_needed, cells_after, lists_of, InRange}
 use Rattle.model.specs.Sheet.{Sheet}
+use Rattle.model.proofs.TaskLists.Masks.{lists_of_lem}
 use Rattle.model.proofs.Tools.Tests.{tested, same_test, or_neither}
 use Rattle.model.proofs.Tools.Folds.{length_map_below, map_below_at, map_below_cong}
 use Rattle.model.proofs.Theory.Completions.{to_go_none}
@@ -13,7 +14,9 @@ use mathlib.Core.Bool.{and-false, or-true}
 use native.Mathlib.Nat.{le-div_iff_mul-le, div-lt_iff_lt-mul, zero-mul, one-mul}
 use lib.Arith.{digits_lt, digits_div, digits_mod}
 use Rattle.kernel_sheet.specs.declared.Counts.{Counts}
+use Rattle.kernel_sheet.specs.declared.Numbers.{Numbers}
 use Rattle.kernel_sheet.specs.Prepared.{CountsOf, EndsOf}
+use Rattle.kernel_bellman.specs.Rests.{Arrayed}
 use Rattle.kernel_table.specs.Cells.{cell_below, cells_below, Shown, Begun}
 
 -- ---- one cell
@@ -171,49 +174,28 @@ module _ (S : Sheet) (cells : List ℕ) {X : List ℕ} (e : X ≡ cells_below S 
 
 -- ---- the loop over the lists
 
--- X: the cells where the loop begins; l: those cells with the lists below k done, of as many lists as the sheet has
-pub record Filling (S : Sheet) (X : List ℕ) (lists : ℕ) (l : List ℕ) (k : ℕ) : Type 0 where
-  pub some : 1 ≤ k
-  pub within : k ≤ lists
-  pub all : lists ≡ 2 ^ S.tasks
-  pub room : 2 ^ S.tasks * S.points ≤ length X
-  pub is : l ≡ cells_below S k X
+-- there are as many as the sheet has
+pub lists_are : {S : Sheet} {x : Numbers} {columns : List ℕ} {lists : ℕ} → Arrayed S x columns → lists ≡ lists_of x.counts.tasks → lists ≡ 2 ^ S.tasks
+lists_are {S} a e = e ∙ ap lists_of a.counts.tasks ∙ lists_of_lem S.tasks (omega (arith, a.workable.counts.tasks))
 
--- it begins with the end costs written
-pub begin : {S : Sheet} {X : List ℕ} {lists : ℕ} → Begun S X → lists ≡ 2 ^ S.tasks → Filling S X lists X 1
-unfolding cells_needed
-begin {S} b n = record { some = omega arith; within = omega (arith, n, pow_pos S.tasks); all = n; room = b.room; is = b.ends }
-
-module _ {S : Sheet} {X l : List ℕ} {lists k : ℕ} (h : Filling S X lists l k) where
-  pub same_many : length l ≡ length X
-  same_many = ap length h.is ∙ length_done S X k
-
-  -- and ends with all lists done
-  pub finish : lists ≤ k → l ≡ cells_after S X
-  finish d = let q : k ≡ 2 ^ S.tasks = omega (arith, h.within, h.all) in h.is ∙ ap (λ (j : ℕ). cells_below S j X) q ∙ all_done S X
-
--- a turn of it
-module _ {S : Sheet} {X l : List ℕ} {lists k : ℕ} (h : Filling S X lists l k) (point : 0 < S.points) (more : k < lists) where
+-- a turn of it. X: the cells where it begins; l: those cells with the lists below k done
+module _ {S : Sheet} {X l : List ℕ} {k : ℕ} (b : Begun S X) (is : l ≡ cells_below S k X) (point : 0 < S.points) (more : k < 2 ^ S.tasks) where
   row_room : (k + 1) * S.points ≤ length X
-  row_room = let n : k + 1 ≤ 2 ^ S.tasks = omega (arith, h.all) in omega (arith, mul-le-mul_right S.points n, h.room)
+  unfolding cells_needed
+  row_room = let n : k + 1 ≤ 2 ^ S.tasks = omega (arith, more) in omega (arith, mul-le-mul_right S.points n, b.room)
 
   pub known_so : Shown S k l
-  known_so = rw h.is (shown S X k point (omega (arith, row_room)))
+  known_so = rw is (shown S X k point (omega (arith, row_room)))
 
   pub room_so : (k + 1) * S.points ≤ length l
-  room_so = rw (h.is, length_done) row_room
-
-  next : {new : List ℕ} → new ≡ cells_below S (k + 1) X → Filling S X lists new (k + 1)
-  next e = record { some = omega arith; within = omega arith; all = h.all; room = h.room; is = e }
+  room_so = rw (is, length_done) row_room
 
   -- an essential list, whose row was written
-  pub row_next : {new : List ℕ} → essential S k ≡ true → new ≡ overwrite_at (k * S.points) (map_below S.points (cost_to_go S k)) l
-      → Filling S X lists new (k + 1)
+  pub row_next : {new : List ℕ} → essential S k ≡ true → new ≡ overwrite_at (k * S.points) (map_below S.points (cost_to_go S k)) l → new ≡ cells_below S (k + 1) X
   unfolding pairs_allow
-  row_next e q = next (q ∙ ap (overwrite_at (k * S.points) (map_below S.points (cost_to_go S k))) h.is
-      ∙ row_done S X k point row_room (rw (e, or-true)) _ refl)
+  row_next e q = q ∙ ap (overwrite_at (k * S.points) (map_below S.points (cost_to_go S k))) is ∙ row_done S X k point row_room (rw (e, or-true)) _ refl
 
   -- a list that is neither essential nor empty
-  pub pass_next : {new : List ℕ} → essential S k ≡ false → new ≡ l → Filling S X lists new (k + 1)
+  pub pass_next : {new : List ℕ} → 0 < k → essential S k ≡ false → new ≡ l → new ≡ cells_below S (k + 1) X
   unfolding pairs_allow
-  pass_next e q = next (q ∙ h.is ∙ row_passed S X k (or_neither (ne_eqb k 0 (λ z. omega (arith, h.some))) e))
+  pass_next some e q = q ∙ is ∙ row_passed S X k (or_neither (ne_eqb k 0 (λ z. omega (arith, some))) e)

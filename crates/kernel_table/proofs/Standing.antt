@@ -1,18 +1,22 @@
 -- Where the rests of a list stand in the table, counted back from its own row. Assumes nothing.
-use Rattle.model.proofs.Basics.{◌≡◌, refl, sym, ap, ◌∙◌, true, List, [], ◌∷◌, ℕ, ◌+◌, ◌-◌, ◌*◌, ◌^◌, ◌≤◌, ◌<◌, mul-le-mul_right, arith, length, get_or, replicate, get_or-replicate, pow_pos, pow_mono, mul-le-mul, le_refl, ◌%◌, ℤ}
-use Rattle.model.specs.{without, pairs_allow, max_tasks, max_doors, InRange}
+use Rattle.model.proofs.Basics.{◌≡◌, sym, ap, ◌∙◌, true, List, [], ◌∷◌, ◌++◌, append_assoc, ℕ, ◌+◌, ◌-◌, ◌*◌, ◌%◌, ◌^◌, ◌≤◌, ◌<◌, arith, length, get_or, take, drop, replicate}
+use Rattle.model.proofs.Basics.{mul-le-mul_right, get_or-replicate, pow_pos, pow_mono, mul-le-mul, length-append, length-take-le, take-append_seam}
+use Rattle.model.proofs.Basics.{le-leb, List·getD-append}
+use Rattle.model.specs.{map_below, overwrite_at, without, pairs_allow, cost_to_go, max_tasks, max_doors, InRange}
 use Rattle.model.specs.Sheet.{Sheet}
 use Rattle.model.proofs.TaskLists.Masks.{bit_le, without_is}
 use Rattle.model.proofs.Theory.FirstTask.{first_bit, allow_without}
-use native.Mathlib.Nat.{mul_comm, add-mul, one-mul, mul-one, mod-eq_of_lt}
-use lib.Arith.{digits_lt}
+use Rattle.model.proofs.Tools.Folds.{length_map_below}
 use Rattle.model.proofs.Tools.Arrays.{front_at}
-use Rattle.kernel_list.specs.Lists.{Opened}
+use native.Mathlib.Nat.{mul_comm, add-mul, one-mul, mod-eq_of_lt}
+use lib.Arith.{digits_lt}
+use Rattle.std.proofs.Math.Seq.{drop-append-add}
 use Rattle.kernel_gather.specs.Gathering.{rest_at}
 use Rattle.kernel_sheet.specs.Prepared.{CountsOf, DoorsOf, Workable}
 use Rattle.kernel_sheet.specs.declared.Counts.{Counts}
+use Rattle.kernel_sheet.specs.declared.Numbers.{Numbers}
 use Rattle.kernel_bellman.specs.Rests.{is_first, Rests, Listed}
-use Rattle.kernel_bellman.proofs.Bellman.{essential_allowed, without_lt, OpenList}
+use Rattle.kernel_bellman.proofs.Bellman.{essential_allowed, without_lt}
 use Rattle.kernel_table.specs.Cells.{Shown, backs_of, Backable, TableRests}
 
 -- the numbers of a sheet's doors are what counting back asks, and gives
@@ -32,16 +36,13 @@ module _ {S : Sheet} {x : Counts} {columns tasks departs works : List ℕ} (W : 
     back = λ d l. rw (e, C.points, C.doors) (front_at S.doors _ (replicate max_doors 0) d l ∙ rw (D.task d l, D.depart d l));
   }
 
--- P points, shifted by a task: 32 bits hold it, and it is no less than a point
+-- P points, shifted by a task: 32 bits hold it
 module _ {P n : ℕ} {tasks departs : List ℕ} (B : Backable P n tasks departs) (d : ℕ) (l : d < n) where
   wide : P * 2 ^ get_or tasks d 0 < 2 ^ 32
   wide = let t : get_or tasks d 0 ≤ max_tasks = omega (arith, B.task d l) in omega (arith, mul-le-mul B.points (pow_mono t))
 
   pub shifted : P * 2 ^ get_or tasks d 0 % 2 ^ 32 ≡ P * 2 ^ get_or tasks d 0
   shifted = mod-eq_of_lt wide
-
-  pub no_less : get_or departs d 0 ≤ P * 2 ^ get_or tasks d 0
-  no_less = omega (arith, B.depart d l, mul-le-mul (le_refl P) (pow_pos (get_or tasks d 0)), mul-one P)
 
 -- so far back from K times P, with v one of the bits of K
 module _ (K v P q : ℕ) (l : v ≤ K) (one : 1 ≤ v) (m : q < P) where
@@ -75,28 +76,30 @@ module _ {S : Sheet} {slots backs : List ℕ} (K : ℕ) (R : InRange S) (T : Tab
 
 -- ---- one list
 
--- its row is among the cells, and from where the code takes it
-pub record Placed (S : Sheet) (x : Counts) (K : ℕ) (cells : List ℕ) : Type 0 where
-  pub room : K * S.points + S.points ≤ length cells
-  pub from : K * x.points ≡ K * S.points
-  pub ends : K * x.points + x.points ≤ length cells
+-- the cells below its row stand apart from the rest of them
+module _ {S : Sheet} {x : Numbers} {K r : ℕ} {columns : List ℕ} (h : Listed S x K r columns) (cells below rest : List ℕ) (parts : cells ≡ below ++ rest)
+    (at : length below ≡ K * x.counts.points) where
+  here : length below ≡ K * S.points
+  here = rw (← h.arrays.counts.points) at
 
-module _ {S : Sheet} {x : Counts} {K r : ℕ} {changes : List ℤ} {sets begins works doors watches leasts mosts charged columns : List ℕ}
-    (h : Listed S x K r changes sets begins works doors watches leasts mosts charged columns) where
-  pub placed : {cells : List ℕ} → (K + 1) * S.points ≤ length cells → Placed S x K cells
-  placed room = record { room = omega (arith, room); from = rw h.arrays.counts.points refl; ends = rw h.arrays.counts.points (omega (arith, room)) }
+  -- they show the lists below it, so its rests stand in them
+  pub rests_before : {slots backs : List ℕ} → TableRests S slots backs → Shown S K cells → Rests S K slots backs (K * x.counts.points ∷ []) below
+  rests_before T known =
+      let shown : Shown S K below = λ L p l a q. sym (List·getD-append below rest 0 (L * S.points + p) (omega (arith, here, digits_lt l q))) ∙ rw parts at (known L p l a q) in
+      rw h.arrays.counts.points (rests_below K h.arrays.workable.plannable.ranges T (essential_allowed S K h.ess) (omega (arith, here)) shown)
 
-  -- it is open: what the code has of it, where its row begins, and the cells below it
-  pub list_open : {w set at : ℕ} {slots backs cells before sums : List ℕ} → TableRests S slots backs → Shown S K cells → Placed S x K cells
-      → Opened S K w set before sums → at ≡ K * x.points → OpenList S K w set before sums slots backs (at ∷ []) cells
-  list_open T known p o e = record {
-    workable = h.arrays.workable;
-    list = h.list;
-    ess = h.ess;
-    opened = o;
-    rests = rw (e ∙ p.from) (rests_below K h.arrays.workable.plannable.ranges T (essential_allowed S K h.ess) (omega (arith, p.room)) known);
-  }
+  -- its row is the front of the rest
+  module _ (room : (K + 1) * S.points ≤ length cells) where
+    pub row_length : length (take x.counts.points rest) ≡ S.points
+    row_length =
+        let long : length cells ≡ length below + length rest = ap length parts ∙ length-append below rest in
+        length-take-le _ _ (omega (arith, h.arrays.counts.points, here, long, room)) ∙ h.arrays.counts.points
 
--- a row that is among the cells of one sheet is there for every sheet that the numbers are of
-pub same_place : {S S' : Sheet} {x : Counts} {K : ℕ} {cells : List ℕ} → Placed S x K cells → x.points ≡ S'.points → Placed S' x K cells
-same_place {x = x} {K} p e = record { room = rw (← e) p.ends; from = ap (λ (n : ℕ). K * n) e; ends = p.ends }
+    -- and what is written there is written over it
+    pub row_over : {row : List ℕ} → row ≡ map_below S.points (cost_to_go S K)
+        → below ++ (row ++ drop x.counts.points rest) ≡ overwrite_at (K * S.points) (map_below S.points (cost_to_go S K)) cells
+    unfolding overwrite_at
+    row_over e =
+        let fits : K * S.points + S.points ≤ length cells = omega (arith, room) in
+        rw (e, h.arrays.counts.points, length_map_below, le-leb (K * S.points + S.points) (length cells) fits, parts, ← here, take-append_seam, drop-append-add)
+        (sym (append_assoc below (map_below S.points (cost_to_go S K)) (drop S.points rest)))

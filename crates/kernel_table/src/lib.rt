@@ -11,149 +11,67 @@ ghost use Rattle.kernel_sheet.specs.Prepared.{ReceiversOf, Prepared};
 ghost use Rattle.kernel_bellman.specs.Rests.{Arrayed, Listed};
 ghost use Rattle.kernel_table.specs.Cells.{Shown, Begun, backs_of, Backable, TableRests};
 
-use kernel_sheet::{Counts, MAX_DOORS, MAX_RULES, MAX_TASKS, Numbers};
+use kernel_bellman::{Room, Sources};
+use kernel_sheet::{MAX_DOORS, Numbers};
 
-// How far before the row of a list the cell of the rest behind each of n doors stands.
-pub fn backs(
-    points: u16,
-    n: u16,
-    task: &[u16; MAX_DOORS],
-    depart: &[u16; MAX_DOORS],
-) -> [u32; MAX_DOORS]
-    requires { Backable points n task.now depart.now }
-    ensures { result ≡ backs_of points n task.now depart.now }
+// How far before the row of a list the cell of the rest behind each door stands.
+pub fn backs(x: &Numbers) -> [u32; MAX_DOORS]
+    requires { Backable x.now.counts.points x.now.counts.doors x.now.doors.task x.now.doors.depart }
+    ensures { result ≡ backs_of x.now.counts.points x.now.counts.doors x.now.doors.task x.now.doors.depart }
 {
-    let mut back = [0u32; MAX_DOORS];
-    let mut d: usize = 0;
-    while d < n as usize {
-        back[d] = ((points as u32) << task[d]) - depart[d] as u32;
-        d = d + 1;
+    let points = u32::from(x.counts.points);
+    let task = &x.doors.task;
+    let depart = &x.doors.depart;
+    let mut back = [0; MAX_DOORS];
+    for d in 0..x.counts.doors as usize {
+        back[d] = (points << task[d]) - u32::from(depart[d]);
     }
     back
 }
 
-// Writes the row of the essential list k, from cells that show the lists below it.
-fn list_row(
-    k: u32,
-    waiting: u32,
-    x: Counts,
-    change: &[i16; MAX_TASKS],
-    sets: &[u64; MAX_TASKS],
-    column: &[u16; MAX_DOORS],
-    work: &[u32; MAX_DOORS],
-    door: &[u16; MAX_RULES],
-    watched: &[u16; MAX_RULES],
-    least: &[u16; MAX_RULES],
-    most: &[u16; MAX_RULES],
-    charge: &[u32; MAX_RULES],
-    columns: &[u64],
-    slot: &[u16; MAX_DOORS],
-    back: &[u32; MAX_DOORS],
-    sums: &mut [u64; MAX_DOORS],
-    begins: &mut [u16; MAX_DOORS],
-    parts: &mut [u64; MAX_DOORS],
-    cells: &mut [u64],
-)
-    requires { (S : Sheet) × Listed S x k waiting change.now sets.now column.now work.now door.now watched.now least.now most.now charge.now columns.now × TableRests S slot.now back.now × Shown S k cells.old × ((k + 1) * S.points ≤ length cells.old) }
-    ensures { (S : Sheet) → Listed S x k waiting change.now sets.now column.now work.now door.now watched.now least.now most.now charge.now columns.now → TableRests S slot.now back.now → Shown S k cells.old → cells.new ≡ overwrite_at (k * S.points) (map_below S.points (cost_to_go S k)) cells.old }
+// Writes the row of the essential list k, from cells that show the lists below it. Its rests stand in the rows below its own, so the cells are cut there.
+fn list_row(from: &Sources, k: u32, waiting: u32, room: &mut Room, cells: &mut [u64])
+    requires { (S : Sheet) × Listed S from.now.numbers.now k waiting from.now.columns.now × TableRests S from.now.slot.now from.now.back.now × Shown S k cells.old × ((k + 1) * S.points ≤ length cells.old) }
+    ensures { (S : Sheet) → Listed S from.now.numbers.now k waiting from.now.columns.now → TableRests S from.now.slot.now from.now.back.now → Shown S k cells.old → cells.new ≡ overwrite_at (k * S.points) (map_below S.points (cost_to_go S k)) cells.old }
 {
-    let points = x.points as usize;
-    let from = k as usize * points;
-    let ends = [from];
-    let hand = kernel_list::open(
-        x, k, waiting, change, sets, work, door, watched, least, most, charge, sums,
-    );
-    let m = kernel_gather::gather(
-        hand.doors, column, sums, slot, back, &ends, cells, begins, parts,
-    );
-    let end = from + points;
-    kernel_row::row(columns, hand.load, m, begins, parts, &mut cells[from..end]);
+    let points = from.numbers.counts.points as usize;
+    let at = k as usize * points;
+    let ends = [at];
+    let (below, rest) = cells.split_at_mut(at);
+    kernel_bellman::list_row(from, k, waiting, &ends, below, room, &mut rest[..points]);
 }
 
 // Writes the row of every essential list, in the order of their numbers, behind the end costs.
-fn list_rows(
-    receivers: &[u32; MAX_TASKS],
-    x: Counts,
-    change: &[i16; MAX_TASKS],
-    sets: &[u64; MAX_TASKS],
-    column: &[u16; MAX_DOORS],
-    work: &[u32; MAX_DOORS],
-    door: &[u16; MAX_RULES],
-    watched: &[u16; MAX_RULES],
-    least: &[u16; MAX_RULES],
-    most: &[u16; MAX_RULES],
-    charge: &[u32; MAX_RULES],
-    columns: &[u64],
-    slot: &[u16; MAX_DOORS],
-    back: &[u32; MAX_DOORS],
-    cells: &mut [u64],
-)
-    requires { (S : Sheet) × Arrayed S x change.now sets.now column.now work.now door.now watched.now least.now most.now charge.now columns.now × ReceiversOf S receivers.now × TableRests S slot.now back.now × Begun S cells.old }
-    ensures { (S : Sheet) → Arrayed S x change.now sets.now column.now work.now door.now watched.now least.now most.now charge.now columns.now → ReceiversOf S receivers.now → TableRests S slot.now back.now → Begun S cells.old → cells.new ≡ cells_after S cells.old }
+fn list_rows(from: &Sources, cells: &mut [u64])
+    requires { (S : Sheet) × Arrayed S from.now.numbers.now from.now.columns.now × ReceiversOf S from.now.numbers.now.tasks.receivers × TableRests S from.now.slot.now from.now.back.now × Begun S cells.old }
+    ensures { (S : Sheet) → Arrayed S from.now.numbers.now from.now.columns.now → ReceiversOf S from.now.numbers.now.tasks.receivers → TableRests S from.now.slot.now from.now.back.now → Begun S cells.old → cells.new ≡ cells_after S cells.old }
 {
-    let mut sums = [0u64; MAX_DOORS];
-    let mut begins = [0u16; MAX_DOORS];
-    let mut parts = [0u64; MAX_DOORS];
-    let lists = tasklist::lists(x.tasks);
-    let mut k: u32 = 1;
-    while k < lists {
-        let waiting = kernel_list::waiting(receivers, k);
+    let numbers = from.numbers;
+    let lists = tasklist::lists(numbers.counts.tasks);
+    let mut room = Room::new();
+    for k in 1..lists {
+        let waiting = kernel_list::waiting(&numbers.tasks.receivers, k);
         if kernel_list::has_all(k, waiting) {
-            list_row(
-                k,
-                waiting,
-                x,
-                change,
-                sets,
-                column,
-                work,
-                door,
-                watched,
-                least,
-                most,
-                charge,
-                columns,
-                slot,
-                back,
-                &mut sums,
-                &mut begins,
-                &mut parts,
-                cells,
-            );
+            list_row(from, k, waiting, &mut room, cells);
         }
-        k = k + 1;
     }
 }
 
-// Fills the table: the end costs, then for every essential list its row. Every other cell stays.
+// Fills the table: the end costs, then for every essential list its row. Every other cell stays. Kept out of its caller, in whose frame its arrays would take more of the stack.
 #[inline(never)]
-pub fn fill(x: Numbers, columns: &[u64], cells: &mut [u64])
-    requires { (S : Sheet) × Prepared S x columns.now × (cells_needed S ≤ length cells.old) }
-    ensures { (S : Sheet) → Prepared S x columns.now → cells.new ≡ cells_after S cells.old }
+pub fn fill(x: &Numbers, columns: &[u64], cells: &mut [u64])
+    requires { (S : Sheet) × Prepared S x.now columns.now × (cells_needed S ≤ length cells.old) }
+    ensures { (S : Sheet) → Prepared S x.now columns.now → cells.new ≡ cells_after S cells.old }
 {
-    let counts = x.counts;
-    let tasks = x.tasks;
-    let doors = x.doors;
-    let rules = x.rules;
-    let ends = x.ends;
-    let change = tasks.change;
-    let receivers = tasks.receivers;
-    let sets = tasks.doors;
-    let column = doors.column;
-    let task = doors.task;
-    let depart = doors.depart;
-    let work = doors.work;
-    let door = rules.door;
-    let watched = rules.watched;
-    let least = rules.least;
-    let most = rules.most;
-    let charge = rules.charge;
-    let points = counts.points as usize;
-    kernel_row::end_row(&ends, &mut cells[..points]);
-    let slot = [0u16; MAX_DOORS];
-    let back = backs(counts.points, counts.doors, &task, &depart);
-    list_rows(
-        &receivers, counts, &change, &sets, &column, &work, &door, &watched, &least, &most,
-        &charge, columns, &slot, &back, cells,
-    );
+    let points = x.counts.points as usize;
+    kernel_row::end_row(&x.ends, &mut cells[..points]);
+    let slot = [0; MAX_DOORS];
+    let back = backs(x);
+    let from = Sources {
+        numbers: x,
+        columns,
+        slot: &slot,
+        back: &back,
+    };
+    list_rows(&from, cells);
 }

@@ -1,8 +1,8 @@
--- The fronts of both arrays are those of the doors walked so far: a turn adds the lowest of the doors left. Assumes nothing.
+-- The front is that of the doors walked so far: a turn adds the lowest of the doors left. Assumes nothing.
 use Rattle.model.proofs.Basics.{refl, ℕ, ◌+◌, ◌-◌, ◌^◌, ◌≤◌, ◌<◌, arith, length, get_or, rules}
 use Rattle.model.specs.{max_doors}
 use lib.Count.{count_trailing_zeros}
-use Rattle.kernel_gather.specs.Gathering.{rest_at, part_at}
+use Rattle.kernel_gather.specs.Gathering.{rest_at, part_at, way_at}
 use Rattle.kernel_gather.proofs.Fronts.{no_front, front_next, front_whole}
 use Rattle.kernel_gather.proofs.Walking.{NextDoor, none_walked, all_walked, next_door_lem, one_walked}
 use Rattle.kernel_gather.proofs.gather.Goals.{In-loop-left}
@@ -33,86 +33,27 @@ there c =
 
 pub loop-left-init : goal.loop-left-init
 loop-left-init c =
-    (none_walked (search rules), no_front _ _ _, no_front _ _ _)
+    (none_walked (search rules), no_front _ _ _)
 
--- one door more at the front of both arrays
+-- one door more at the front
 pub loop-left-preserved : goal.loop-left-preserved
-unfolding rest_at part_at
+unfolding rest_at part_at way_at
 loop-left-preserved c =
     let i = c.loop-left.invariant in
-    let n = next (goal.at.loop-left-preserved c).In-loop-left in (
-      one_walked i.0 (omega arith),
-      front_next i.1 n.within (omega arith) n.is refl,
-      front_next i.2 n.within (omega arith) n.is refl,
-    )
+    let n = next (goal.at.loop-left-preserved c).In-loop-left in
+    (one_walked i.0 (omega arith), front_next i.1 n.within (omega arith) n.is refl)
 
 pub returns : goal.returns
 returns c =
-    let i = c.loop-left.invariant in let n = all_walked i.0 (omega arith) in record { count = n; begins = front_whole i.1 n; parts = front_whole i.2 n }
+    let i = c.loop-left.invariant in let n = all_walked i.0 (omega arith) in record { count = n; ways = front_whole i.1 n }
 
-pub overflow_cast-d : goal.overflow_cast-d
-overflow_cast-d c =
-    omega (arith, next (goal.at.overflow_cast-d c).In-loop-left)
-
-pub offset_bounds-slot-d : goal.offset_bounds-slot-d
-offset_bounds-slot-d c =
-    omega (arith, next (goal.at.offset_bounds-slot-d c).In-loop-left)
-
-pub bounds-slot-d : goal.bounds-slot-d
-bounds-slot-d c =
-    omega (arith, next (goal.at.bounds-slot-d c).In-loop-left)
-
-pub overflow_cast-e : goal.overflow_cast-e
-overflow_cast-e c =
-    omega (arith, there (goal.at.overflow_cast-e c).In-loop-left)
-
-pub offset_bounds-ends-e : goal.offset_bounds-ends-e
-offset_bounds-ends-e c =
-    omega (arith, there (goal.at.offset_bounds-ends-e c).In-loop-left)
-
-pub bounds-ends-e : goal.bounds-ends-e
-bounds-ends-e c =
-    omega (arith, there (goal.at.bounds-ends-e c).In-loop-left)
-
-pub offset_bounds-back-d : goal.offset_bounds-back-d
-offset_bounds-back-d c =
-    omega (arith, next (goal.at.offset_bounds-back-d c).In-loop-left)
-
-pub bounds-back-d : goal.bounds-back-d
-bounds-back-d c =
-    omega (arith, next (goal.at.bounds-back-d c).In-loop-left)
-
-pub overflow_cast-at : goal.overflow_cast-at
-overflow_cast-at c =
-    omega (arith, there (goal.at.overflow_cast-at c).In-loop-left, c.type_inv.ends (this_slot (goal.at.overflow_cast-at c).In-loop-left))
+pub bounds-ends-slot : goal.bounds-ends-slot
+bounds-ends-slot c =
+    omega (arith, there (goal.at.bounds-ends-slot c).In-loop-left)
 
 pub overflow_sub-at : goal.overflow_sub-at
 overflow_sub-at c =
     omega (arith, there (goal.at.overflow_sub-at c).In-loop-left)
-
-pub offset_bounds-column-d : goal.offset_bounds-column-d
-offset_bounds-column-d c =
-    omega (arith, next (goal.at.offset_bounds-column-d c).In-loop-left)
-
-pub bounds-column-d : goal.bounds-column-d
-bounds-column-d c =
-    omega (arith, next (goal.at.bounds-column-d c).In-loop-left)
-
-pub offset_bounds-begins-m : goal.offset_bounds-begins-m
-offset_bounds-begins-m c =
-    omega (arith, next (goal.at.offset_bounds-begins-m c).In-loop-left)
-
-pub bounds-begins-m : goal.bounds-begins-m
-bounds-begins-m c =
-    omega (arith, next (goal.at.bounds-begins-m c).In-loop-left)
-
-pub offset_bounds-sums-d : goal.offset_bounds-sums-d
-offset_bounds-sums-d c =
-    omega (arith, next (goal.at.offset_bounds-sums-d c).In-loop-left)
-
-pub bounds-sums-d : goal.bounds-sums-d
-bounds-sums-d c =
-    omega (arith, next (goal.at.bounds-sums-d c).In-loop-left)
 
 pub offset_bounds-cells-at : goal.offset_bounds-cells-at
 offset_bounds-cells-at c =
@@ -122,21 +63,13 @@ pub bounds-cells-at : goal.bounds-cells-at
 bounds-cells-at c =
     omega (arith, there (goal.at.bounds-cells-at c).In-loop-left)
 
-pub overflow_add-parts : goal.overflow_add-parts
-overflow_add-parts c =
-    omega (arith, there (goal.at.overflow_add-parts c).In-loop-left)
+pub overflow_add-ways : goal.overflow_add-ways
+overflow_add-ways c =
+    omega (arith, there (goal.at.overflow_add-ways c).In-loop-left)
 
-pub offset_bounds-parts-m : goal.offset_bounds-parts-m
-offset_bounds-parts-m c =
-    omega (arith, next (goal.at.offset_bounds-parts-m c).In-loop-left)
-
-pub bounds-parts-m : goal.bounds-parts-m
-bounds-parts-m c =
-    omega (arith, next (goal.at.bounds-parts-m c).In-loop-left)
-
-pub overflow_add-m : goal.overflow_add-m
-overflow_add-m c =
-    omega (arith, next (goal.at.overflow_add-m c).In-loop-left)
+pub bounds-ways-m : goal.bounds-ways-m
+bounds-ways-m c =
+    omega (arith, next (goal.at.bounds-ways-m c).In-loop-left)
 
 pub loop-left-smaller : goal.loop-left-smaller
 loop-left-smaller c =

@@ -1,42 +1,33 @@
 -- The lists of m tasks are visited one after the other: those below k are done, and the layer below shows what each needs. Assumes nothing.
-use Rattle.model.proofs.Basics.{sym, ap, ◌∙◌, ◌≤◌, ◌<◌, pow_mono, arith}
+use Rattle.model.proofs.Basics.{sym, ap, ◌∙◌, ◌≤◌, ◌<◌, arith}
 use Rattle.model.specs.{lists_of, mask_bits}
 use Rattle.model.proofs.TaskLists.Masks.{lists_of_lem, full_of_lem}
 use Rattle.kernel_bellman.proofs.Lists.{told, listed}
-use Rattle.kernel_layers.proofs.Layering.{Filling, begin, stands_in_sheet, row_turn, pass_turn, all_done, same_room}
-use Rattle.kernel_layers.proofs.size_rows.Goals.{At-loop-k, then-has_all, else-has_all}
+use Rattle.kernel_layers.proofs.Layering.{begin, stands_in_sheet, row_turn, pass_turn, same_room}
+use Rattle.kernel_layers.proofs.size_rows.Goals.{then-has_all, else-has_all}
 use Rattle.kernel_layers.proofs.size_rows.Goals as goal
-
--- the layer as it is of the caller's sheet
-so_far : (c : At-loop-k) → Filling c.requires.1.0 c.args.m c.args.here.now c.lists-lists.result c.loop-k.here c.loop-k.k
-so_far c = let p = c.requires.1 in c.loop-k.invariant p.0 p.1 p.2 p.3 p.7
 
 pub loop-k-init : goal.loop-k-init
 loop-k-init c S A R T w =
-    let p = c.requires.1 in
+    let p = c.requires in
     let n : S.tasks < mask_bits = omega (arith, A.workable.counts.tasks) in
     let m : c.args.m ≤ S.tasks = omega (arith, p.6, p.1.counts.tasks, A.counts.tasks) in
     rw (c.full-k.ensures, full_of_lem c.args.m (omega (arith, m, n))) (begin (c.lists-lists.ensures ∙ ap lists_of A.counts.tasks ∙ lists_of_lem S.tasks n) p.5 m)
 
 pub list_row-requires : goal.list_row-requires
 list_row-requires c =
-    let p = c.requires.1 in
-    let h = so_far (goal.at.list_row-requires c).At-loop-k in
+    let p = c.requires in
+    let h = c.loop-k.invariant p.0 p.1 p.2 p.3 p.7 in
     let more : c.loop-k.k < c.lists-lists.result = omega arith in
     let k = stands_in_sheet h more in
     let ess = sym (told p.1 _ p.2 c.loop-k.k _ k c.waiting-waiting.ensures h.some c.has_all.ensures) ∙ c.if-has_all.true in
     let ok = listed p.1 _ p.2 c.loop-k.k _ k c.waiting-waiting.ensures ess in
-    (c.requires.0, (p.0, ok, p.3, record { room_below = p.4.room_below; room_here = omega (arith, p.4.room_here, h.kept.as_many) }, rw (h.of_size more) p.7))
-
-pub next-k-requires : goal.next-k-requires
-next-k-requires c =
-    let n : c.requires.1.0.tasks ≤ 16 = omega (arith, c.requires.1.1.workable.counts.tasks) in
-    ((so_far (goal.at.next-k-requires c).At-loop-k).some, omega (arith, (so_far (goal.at.next-k-requires c).At-loop-k).all, c.loop-k-test.true, pow_mono n))
+    (p.0, ok, p.3, record { room_below = p.4.room_below; room_here = omega (arith, p.4.room_here, h.kept.as_many) }, rw (h.of_size more) p.7)
 
 -- the row of an essential list was written, or nothing was
 pub loop-k-preserved : goal.loop-k-preserved
 loop-k-preserved c S A R T shown =
-    let p = c.requires.1 in
+    let p = c.requires in
     let h = c.loop-k.invariant S A R T shown in
     let more : c.loop-k.k < c.lists-lists.result = omega arith in
     let says = sym (told A _ R c.loop-k.k _ (stands_in_sheet h more) c.waiting-waiting.ensures h.some c.has_all.ensures) in
@@ -46,11 +37,3 @@ loop-k-preserved c S A R T shown =
           (w.here-is ∙ w.list_row.ensures S (listed A _ R c.loop-k.k _ (stands_in_sheet h more) c.waiting-waiting.ensures ess) T (rw (h.of_size more) shown))
       | else-has_all w ↦ pass_turn h more A.workable.counts.tasks room c.next-k.ensures (says ∙ w.if-has_all.false) w.here-is
     ]
-
-pub returns : goal.returns
-returns c S A R T w =
-    all_done (c.loop-k.invariant S A R T w) c.loop-k-test.false
-
-pub shape_of-here : goal.shape_of-here
-shape_of-here c =
-    (so_far (goal.at.shape_of-here c).At-loop-k).kept.as_many

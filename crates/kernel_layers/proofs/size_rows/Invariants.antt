@@ -7,9 +7,9 @@ use Rattle.kernel_layers.specs.Layers.{Shows, LayerRests}
 use Rattle.kernel_layers.proofs.Layering.{Filling}
 use Rattle.kernel_layers.proofs.size_rows.Given as goal
 
--- of every sheet that the arrays are of
+-- of every sheet that the numbers are of
 abbrev pub invariant-loop-k : goal.invariant-loop-k
-invariant-loop-k l = (S : Sheet) → Arrayed S l.x l.change l.sets l.column l.work l.door l.watched l.least l.most l.charge l.columns → ReceiversOf S l.receivers → LayerRests S l.slot l.back → Shows S (l.m - 1) l.below
+invariant-loop-k l = (S : Sheet) → Arrayed S l.from.numbers.now l.from.columns.now → ReceiversOf S l.from.numbers.now.tasks.receivers → LayerRests S l.from.slot.now l.from.back.now → Shows S (l.m - 1) l.below
     → Filling S l.m l.initial.here l.lists l.here l.k
 
 abbrev pub decreases-loop-k : goal.decreases-loop-k

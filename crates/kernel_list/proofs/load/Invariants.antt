@@ -5,8 +5,5 @@ use Rattle.kernel_list.proofs.Walks.{Left}
 use Rattle.kernel_list.proofs.Loads.{LoadBelow}
 use Rattle.kernel_list.proofs.load.Given as goal
 
-abbrev pub invariant-loop-left : goal.invariant-loop-left
-invariant-loop-left l = (u : ℕ) × Left l.k l.left u × LoadBelow l.end_load l.change l.k u l.sum
-
-abbrev pub decreases-loop-left : goal.decreases-loop-left
-decreases-loop-left l = l.left
+abbrev pub invariant-loop-t : goal.invariant-loop-t
+invariant-loop-t l = (u : ℕ) × Left l.k l.t-iterator.0 u × LoadBelow l.end_load l.change l.k u l.sum

@@ -6,39 +6,23 @@ use Rattle.kernel_row.proofs.lower.Goals as goal
 
 -- a point is left
 another : (c : In-loop-p) → c.loop-p.p < length c.args.leasts.now
-another c = omega (arith, c.loop-p.invariant.size, c.loop-p-test.true)
+another c = c.loop-p-test.true
 
 pub loop-p-init : goal.loop-p-init
 loop-p-init c =
     none_lowered _ _
 
-pub bounds-first-p : goal.bounds-first-p
-bounds-first-p c =
-    omega (arith, another (goal.at.bounds-first-p c).In-loop-p, c.requires.0.size)
-
 pub lowered-least-requires : goal.lowered-least-requires
 lowered-least-requires c =
     (c.requires.0.wide _ (another (goal.at.lowered-least-requires c).In-loop-p), c.requires.0.fits _ (another (goal.at.lowered-least-requires c).In-loop-p), (_, still c.loop-p.invariant (c.requires.2.1 _ (another (goal.at.lowered-least-requires c).In-loop-p))))
-
-pub bounds-second-p : goal.bounds-second-p
-bounds-second-p c =
-    omega (arith, another (goal.at.bounds-second-p c).In-loop-p, c.requires.1.size)
 
 pub lowered-requires : goal.lowered-requires
 lowered-requires c =
     (c.requires.1.wide _ (another (goal.at.lowered-requires c).In-loop-p), c.requires.1.fits _ (another (goal.at.lowered-requires c).In-loop-p), (_, c.lowered-least.ensures _ (still c.loop-p.invariant (c.requires.2.1 _ (another (goal.at.lowered-requires c).In-loop-p)))))
 
-pub loop-p-smaller : goal.loop-p-smaller
-loop-p-smaller c =
-    omega (arith, another (goal.at.loop-p-smaller c).In-loop-p)
-
 pub loop-p-preserved : goal.loop-p-preserved
 loop-p-preserved c =
-    one_lowered c.loop-p.invariant _ c.loop-p-test.true (λ n h. c.lowered.ensures _ (c.lowered-least.ensures n h))
-
-pub shape_of-leasts : goal.shape_of-leasts
-shape_of-leasts c =
-    c.loop-p.invariant.size
+    one_lowered c.loop-p.invariant _ (omega (arith, c.loop-p.invariant.size)) (λ n h. c.lowered.ensures _ (c.lowered-least.ensures n h))
 
 pub returns : goal.returns
 returns c f h =

@@ -1,4 +1,4 @@
--- The numbers are taken apart, the end costs are written, and then the rows of the lists. Assumes nothing.
+-- The end costs are written, and then the rows of the lists. Assumes nothing.
 use Rattle.model.proofs.Basics.{◌≡◌, sym, ◌∙◌, ◌++◌, ◌≤◌, List, ℕ, arith, length, take, drop, length-take-le}
 use Rattle.model.specs.{cells_needed}
 use Rattle.model.specs.Sheet.{Sheet}
@@ -6,7 +6,7 @@ use Rattle.kernel_sheet.specs.declared.Numbers.{Numbers}
 use Rattle.kernel_sheet.specs.Prepared.{Prepared}
 use Rattle.kernel_bellman.proofs.Lists.{arrayed}
 use Rattle.kernel_table.specs.Cells.{cells_below}
-use Rattle.kernel_table.proofs.Standing.{backable, table_rests}
+use Rattle.kernel_table.proofs.Standing.{table_rests}
 use Rattle.kernel_table.proofs.Filling.{first_held, same_needed, ends_row, ends_done, begun, after_ends}
 use Rattle.kernel_table.proofs.fill.Goals.{After-backs-back}
 use Rattle.kernel_table.proofs.fill.Goals as goal
@@ -24,19 +24,11 @@ module _ {S : Sheet} {x : Numbers} {columns : List ℕ} (cells : List ℕ) (h : 
   room S' h' = omega (arith, same_needed h.numbers.counts h'.numbers.counts, enough)
 
 -- the end costs are written
-ends : (c : After-backs-back) (S : Sheet) → Prepared S c.args.x c.args.columns.now
-    → c.end_row.new.out ++ drop c.args.x.counts.points c.args.cells.now ≡ cells_below S 1 c.args.cells.now
+ends : (c : After-backs-back) (S : Sheet) → Prepared S c.args.x.now c.args.columns.now
+    → c.end_row.new.out ++ drop c.args.x.now.counts.points c.args.cells.now ≡ cells_below S 1 c.args.cells.now
 ends c S h =
     ends_done S c.args.cells.now h.workable.plannable.ranges h.workable.counts.one_point (first_held S c.args.cells.now (room c.args.cells.now c.requires.1 c.requires.2 S h)) h.numbers.counts.points
-    (ends_row S c.args.x.ends h.numbers.ends (taken c.args.cells.now c.requires.1 c.requires.2 ∙ h.numbers.counts.points) c.end_row.ensures)
-
-pub end_row-requires : goal.end_row-requires
-end_row-requires c =
-    omega (arith, taken c.args.cells.now c.requires.1 c.requires.2, c.requires.1.numbers.counts.points, c.requires.1.workable.counts.points)
-
-pub backs-back-requires : goal.backs-back-requires
-backs-back-requires c =
-    let p = c.requires.1 in backable p.workable p.numbers.counts p.numbers.doors
+    (ends_row S c.args.x.now.ends h.numbers.ends (taken c.args.cells.now c.requires.1 c.requires.2 ∙ h.numbers.counts.points) c.end_row.ensures)
 
 pub list_rows-requires : goal.list_rows-requires
 list_rows-requires c =
