@@ -1,5 +1,5 @@
 -- A sheet that reads has what the planner's calls ask, and its refusals for want of room. Assumes nothing.
-use Rattle.model.proofs.Basics.{◌≡◌, refl, sym, ap, ap₂, ◌∙◌, true, List, ℕ, ◌+◌, ◌*◌, ◌^◌, ◌≤◌, ◌<◌, ◌-◌, arith, length, get_or, take, drop, are_bytes}
+use Rattle.model.proofs.Basics.{◌≡◌, refl, sym, ap, ap₂, ◌∙◌, true, List, ℕ, ◌+◌, ◌*◌, ◌^◌, ◌≤◌, ◌<◌, ◌-◌, arith, length, get_or, take, get_or-take, drop, are_bytes}
 use Rattle.model.proofs.Basics.{pow_pos, lt-ltb, le-ltb}
 use lib.{ListN.length-drop, Seq.take-length, Seq.get_or-drop, Arith.digits_lt}
 use Rattle.model.specs.{full, mask_bits, lists_of, full_of, refused, decode, read_sheet, plan_length, short_room, cells_needed, few_cells, room_tests}
@@ -17,7 +17,7 @@ use Rattle.kernel_sheet.specs.{declared.Numbers.Numbers, Prepared.Prepared}
 use Rattle.kernel_table.specs.Cells.{Shown}
 use Rattle.kernel_table.proofs.Filling.{shown_after}
 use Rattle.kernel_start.specs.Choosing.{Startable}
-use Rattle.kernel_start.proofs.Starting.{round_from}
+use Rattle.kernel_start.proofs.Starting.{round_from, taken}
 use Rattle.kernel_complete.specs.Completed.{Completable}
 
 -- past the tests: the sheet reads, and there is room for the cells and for the plan
@@ -109,10 +109,11 @@ module _ {S : Sheet} {x : Numbers} {columns cells : List ℕ} {k n : ℕ} {new :
   to_end : row_from k n new ≡ drop (k * n) new
   to_end = ap (λ (m : ℕ). take m (drop (k * n) new)) (sym (length-drop (k * n) new)) ∙ take-length (drop (k * n) new)
 
-  pub startable : {m : ℕ} → m ≡ S.starts → Startable S x.starts m (row_from k n new)
-  startable e = rw to_end (record {
-    points = h.prepared.numbers.starts;
-    count = e;
+  -- the start can be chosen, of the first m of the array
+  pub startable : {m : ℕ} → m ≡ S.starts → S.starts ≤ length x.starts → Startable S (take m x.starts) (row_from k n new)
+  startable e many = rw to_end (record {
+    points = (taken S x.starts _ h.prepared.numbers.starts e many).0;
+    count = (taken S x.starts _ h.prepared.numbers.starts e many).1;
     one_start = h.prepared.workable.counts.one_start;
     few = h.prepared.workable.counts.starts;
     held = λ s l. rw length-drop (omega (arith, start_in_lem s l));
@@ -127,9 +128,13 @@ module _ {S : Sheet} {x : Numbers} {columns cells : List ℕ} {k n : ℕ} {new :
   unfolding full
   next_full = omega (arith, pow_pos S.tasks)
 
+  -- a start of the first m is that of the array
+  pub start_of : {m s : ℕ} → m ≡ S.starts → s < S.starts → get_or (take m x.starts) s 0 ≡ get_or x.starts s 0
+  start_of {m} {s} e l = get_or-take m x.starts s 0 (rw e l)
+
   -- and from the point of a start the full list can be completed
-  pub completable : {s : ℕ} → s < S.starts → Completable S x columns k (get_or x.starts s 0) new
-  completable {s} l = rw (h.list, h.prepared.numbers.starts s l) (record {
+  pub completable : {m s : ℕ} → m ≡ S.starts → s < S.starts → Completable S x columns k (get_or (take m x.starts) s 0) new
+  completable {m} {s} e l = rw (start_of e l, h.list, h.prepared.numbers.starts s l) (record {
     prepared = h.prepared;
     list = full_lt S.tasks;
     allowed = allowed;

@@ -33,8 +33,8 @@ module _ (b even odd : List ℕ) {even' odd' : List ℕ} (F : Fits b (length eve
     ranges : InRange (decode b)
     ranges = (plannable b F.reads).ranges
 
-    -- the start can be chosen from it, m being the code's number of starts
-    pub startable : {starts : List ℕ} {m : ℕ} → StartsOf (decode b) starts → m ≡ (decode b).starts → Startable (decode b) starts m row
+    -- the start can be chosen from it
+    pub startable : {starts : List ℕ} → StartsOf (decode b) starts → length starts ≡ (decode b).starts → Startable (decode b) starts row
     startable h e =
         let w = counts_read b F.reads in
         record { points = h; count = e; one_start = w.one_start; few = w.starts; held = λ s l. rw row_shows.0 (ranges.start s l) }

@@ -14,7 +14,7 @@ pub record Held (b q : List ℕ) (n : ℕ) (x : PlanInHand) : Type 0 where
   pub hand : x ≡ in_hand n q
 
 module _ {b q : List ℕ} {n : ℕ} {x : PlanInHand} (h : Held b q n x) where
-  few : n ≤ max_plan_doors
+  pub few : n ≤ max_plan_doors
   few = rw h.tasks h.printable.steps.few
 
   pub in_array : n ≤ length x.doors

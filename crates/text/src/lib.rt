@@ -5,13 +5,12 @@ ghost use Rattle.std.specs.Prelude.{◌≡◌, ◌+◌, ◌*◌, ◌≤◌, leng
 ghost use Rattle.model.specs.SheetLayout.{decode};
 ghost use Rattle.model.specs.PlanLayout.{max_plan_doors};
 ghost use Rattle.model.specs.Printing.{step_lines, plan_lines, printed_with, print};
-ghost use Rattle.view.specs.Views.{view_of};
+ghost use Rattle.view.specs.Sheets.{sheet_of};
 ghost use Rattle.lines.specs.Lines.{max_step, max_text, Laid};
 ghost use Rattle.text.specs.Steps.{Steps, plan_in, Printable};
 
 use decimal::put_text;
-use planner::Planning;
-use view::View;
+use view::{TaskSheet, View};
 
 // Room for the bytes of any plan.
 const PLAN_BYTES: usize = 56;
@@ -20,21 +19,17 @@ const PLAN_BYTES: usize = 56;
 pub const TEXT_BYTES: usize = 989;
 
 // Lays a line for each of the doors into the buffer from byte `at` on. They complete the full list, which loses a task with each step.
-fn step_lines(s: &[u8], v: View, doors: &[u16], out: &mut [u8], at: usize) -> usize
-    requires { Steps s.now doors.now × (v ≡ view_of s.now) × (at + max_step * max_plan_doors ≤ length out.old) }
-    ensures { Laid at (step_lines (decode s.now) doors.now) out.old out.new result }
+fn step_lines(sheet: &TaskSheet, doors: &[u16], out: &mut [u8], at: usize) -> usize
+    requires { Steps sheet.now.bytes.now doors.now × (at + max_step * max_plan_doors ≤ length out.old) }
+    ensures { Laid at (step_lines (sheet_of sheet.now) doors.now) out.old out.new result }
 {
-    let n = doors.len();
-    let mut left = tasklist::full(v.tasks);
+    let mut left = tasklist::full(sheet.view.tasks);
     let mut end = at;
-    let mut i: usize = 0;
-    while i < n {
-        let d = doors[i];
-        let t = view::task(s, v, d);
+    for &d in doors {
+        let t = sheet.task(d);
         let after = tasklist::without(left, t);
         end = lines::step_line(out, end, d, t, left);
         left = after;
-        i = i + 1;
     }
     end
 }
@@ -44,13 +39,11 @@ fn plan_lines(s: &[u8], q: &[u8], out: &mut [u8]) -> usize
     requires { Printable s.now q.now × (max_text ≤ length out.old) }
     ensures { Laid 0 (plan_lines (decode s.now) (plan_in s.now q.now)) out.old out.new result }
 {
-    let v = View::of(s);
-    let n = v.tasks;
-    let x = hand::in_hand(n, q);
+    let view = View::of(s);
+    let sheet = TaskSheet { bytes: s, view };
+    let x = hand::in_hand(view.tasks, q);
     let behind_head = lines::head_lines(out, x.cost, layout::start_in(q));
-    let doors = x.doors;
-    let count = n as usize;
-    step_lines(s, v, &doors[..count], out, behind_head)
+    step_lines(&sheet, &x.doors[..view.tasks as usize], out, behind_head)
 }
 
 // Lays all that is printed for a sheet into the buffer, which has room for any of it: the lines of its plan or of the refusal.
@@ -59,11 +52,10 @@ fn answer_lines(s: &[u8], cells: &mut [u64], out: &mut [u8]) -> usize
     ensures text { Laid 0 (printed_with (length cells.old) s.now) out.old out.new result }
     ensures cells { cells.new ≡ (print s.now cells.old out.old).cells }
 {
-    let mut q = [0u8; PLAN_BYTES];
-    let planning = planner::plan(s, cells, &mut q);
-    match planning {
-        Planning::Planned(_) => plan_lines(s, &q, out),
-        Planning::Refused(refusal) => lines::refusal_line(out, refusal::number_of(refusal)),
+    let mut q = [0; PLAN_BYTES];
+    match planner::plan(s, cells, &mut q) {
+        Ok(_) => plan_lines(s, &q, out),
+        Err(refusal) => lines::refusal_line(out, u32::from(refusal)),
     }
 }
 
@@ -74,7 +66,7 @@ pub fn print(s: &[u8], cells: &mut [u64], out: &mut [u8]) -> usize
     ensures bytes { out.new ≡ (print s.now cells.old out.old).bytes }
     ensures cells { cells.new ≡ (print s.now cells.old out.old).cells }
 {
-    let mut text = [0u8; TEXT_BYTES];
+    let mut text = [0; TEXT_BYTES];
     let end = answer_lines(s, cells, &mut text);
     put_text(out, 0, &text[..end])
 }

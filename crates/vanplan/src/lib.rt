@@ -8,16 +8,20 @@ ghost use Rattle.model.specs.Faults.{read_sheet, tasks_left, points_left};
 ghost use Rattle.model.specs.PlanLayout.{write_plan, read_plan, start_left, doors_left, cost_left};
 ghost use Rattle.model.specs.Planning.{plan};
 ghost use Rattle.model.specs.Validating.{validate};
+ghost use Rattle.refusal.specs.Answers.{answer_by};
 ghost use Rattle.price.specs.Pricing.{price, LayersAfter, row_place, price_cost, price_start, row_layer, row_cells};
 
-use plan::Writing;
-use planner::Planning;
-use price::{Fitting, Pricing};
-use sheet::Reading;
-use validate::Validation;
+use refusal::Refusal;
 
-// What a call returns that is not refused.
-const OK: u32 = 0;
+// What a call returns, a number as the C interface has it: 0, or that of the refusal.
+fn status_of<T>(answer: &Result<T, Refusal>) -> u32
+    ensures { result ≡ status (answer_by (λ x. x) answer.now) }
+{
+    match answer {
+        Ok(_) => 0,
+        Err(refusal) => u32::from(*refusal),
+    }
+}
 
 // Reads a sheet: its numbers of tasks and points.
 pub fn vanplan_read(sheet: &[u8], tasks: &mut u64, points: &mut u64) -> u32
@@ -26,14 +30,11 @@ pub fn vanplan_read(sheet: &[u8], tasks: &mut u64, points: &mut u64) -> u32
     ensures points { points.new ≡ points_left sheet.now points.old }
 {
     let reading = sheet::read(sheet);
-    match reading {
-        Reading::Read(v) => {
-            *tasks = v.tasks as u64;
-            *points = v.points as u64;
-            OK
-        }
-        Reading::Refused(refusal) => refusal::number_of(refusal),
+    if let Ok(read) = &reading {
+        *tasks = u64::from(read.sheet.view.tasks);
+        *points = u64::from(read.sheet.view.points);
     }
+    status_of(&reading)
 }
 
 // Plans a sheet: the costs to go in the cells, the cheapest plan at the front of the buffer, and its cost.
@@ -44,13 +45,10 @@ pub fn vanplan_plan(sheet: &[u8], cells: &mut [u64], buf: &mut [u8], cost: &mut 
     ensures cost { cost.new ≡ placed_number (plan sheet.now cells.old buf.old).answer cost.old }
 {
     let planning = planner::plan(sheet, cells, buf);
-    match planning {
-        Planning::Planned(least) => {
-            *cost = least;
-            OK
-        }
-        Planning::Refused(refusal) => refusal::number_of(refusal),
+    if let Ok(least) = &planning {
+        *cost = *least;
     }
+    status_of(&planning)
 }
 
 // Writes a plan of n doors, the first n of those lent, to the front of the buffer.
@@ -67,13 +65,10 @@ pub fn vanplan_write_plan(
     ensures written { written.new ≡ placed_number (write_plan n start doors.now cost buf.old).answer written.old }
 {
     let writing = plan::write(n, start, doors, cost, buf);
-    match writing {
-        Writing::Written(length) => {
-            *written = length;
-            OK
-        }
-        Writing::Refused(refusal) => refusal::number_of(refusal),
+    if let Ok(length) = &writing {
+        *written = *length;
     }
+    status_of(&writing)
 }
 
 // Reads a plan of n doors: its start, its doors and its cost. Doors lent from n on are set to 0.
@@ -89,11 +84,8 @@ pub fn vanplan_read_plan(
     ensures doors { doors.new ≡ doors_left n bytes.now doors.old }
     ensures cost { cost.new ≡ cost_left n (length doors.old) bytes.now cost.old }
 {
-    let reading = plan::read(n, bytes, start, doors, cost);
-    match reading {
-        plan::Reading::Read => OK,
-        plan::Reading::Refused(refusal) => refusal::number_of(refusal),
-    }
+    let read = plan::read(n, bytes, start, doors, cost);
+    status_of(&read)
 }
 
 // Validates a plan for a sheet: its cost.
@@ -102,13 +94,10 @@ pub fn vanplan_validate(sheet: &[u8], plan: &[u8], cost: &mut u64) -> u32
     ensures cost { cost.new ≡ placed_number (validate sheet.now plan.now) cost.old }
 {
     let validation = validate::validate(sheet, plan);
-    match validation {
-        Validation::Accepted(value) => {
-            *cost = value;
-            OK
-        }
-        Validation::Refused(refusal) => refusal::number_of(refusal),
+    if let Ok(value) = &validation {
+        *cost = *value;
     }
+    status_of(&validation)
 }
 
 // Prices a sheet in two layers of cells: the least cost and its first start.
@@ -125,14 +114,11 @@ pub fn vanplan_price(
     ensures start { start.new ≡ placed price_start (price sheet.now (length even.old) (length odd.old)) start.old }
 {
     let pricing = price::price(sheet, even, odd);
-    match pricing {
-        Pricing::Priced(quote) => {
-            *cost = quote.cost;
-            *start = quote.start;
-            OK
-        }
-        Pricing::Refused(refusal) => refusal::number_of(refusal),
+    if let Ok(quote) = &pricing {
+        *cost = quote.cost;
+        *start = quote.start;
     }
+    status_of(&pricing)
 }
 
 // Which layer begins with the row of the full list, 0 for the even one and 1 for the odd one, and of how many cells that row is.
@@ -148,13 +134,10 @@ pub fn vanplan_price_row<'a>(
     ensures cells { cells.new ≡ placed row_cells (row_place sheet.now (length even.now) (length odd.now)) cells.old }
 {
     let fitting = price::fit(sheet, even.len(), odd.len());
-    match fitting {
-        Fitting::Fits(v) => {
-            let row = price::row(sheet, even, odd);
-            *layer = v.tasks as usize % 2;
-            *cells = row.len();
-            OK
-        }
-        Fitting::Refused(refusal) => refusal::number_of(refusal),
+    if let Ok(read) = &fitting {
+        let row = price::row(sheet, even, odd);
+        *layer = usize::from(read.sheet.view.tasks) % 2;
+        *cells = row.len();
     }
+    status_of(&fitting)
 }

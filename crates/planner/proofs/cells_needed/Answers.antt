@@ -5,10 +5,10 @@ use Rattle.planner.proofs.cells_needed.Goals as goal
 
 pub overflow_mul-result : goal.overflow_mul-result
 overflow_mul-result c =
-    let n = c.args.v.points in
+    let n = c.args.sheet.now.view.points in
     let m : c.lists.result * n ≤ 4294967295 * n = mul-le-mul_right n (omega arith) in
     omega arith
 
 pub returns : goal.returns
 returns c =
-    let p = c.requires in needed_is p.0 p.1 c.lists.ensures
+    needed_is c.args.sheet.now.viewed c.requires c.lists.ensures

@@ -1,35 +1,27 @@
 -- The sheet reads, so each call has what it asks; 20 and 21 leave everything, and past them the plan is carried out. Assumes nothing.
-use Rattle.model.proofs.Basics.{◌≡◌, List, ℕ, ◌*◌, ◌≤◌, mul-le-mul, arith}
-use Rattle.model.specs.{decode, read_sheet, status}
-use Rattle.model.proofs.Tools.Elements.{are_bytes_lem}
-use Rattle.model.proofs.Calls.{Reading.Reads, Interface.reads_sheet}
-use Rattle.view.specs.{declared.View.View, Views.view_of, Views.Viewed}
+use Rattle.model.proofs.Basics.{ap, ◌∙◌, List, ℕ, ◌*◌, ◌≤◌, mul-le-mul, arith, take}
+use Rattle.model.specs.{decode}
+use Rattle.model.proofs.Calls.{Interface.reads_sheet}
 use Rattle.view.proofs.Counted.{tasks_are, points_are, starts_are}
 use Rattle.kernel_sheet.specs.Prepared.{Workable}
-use Rattle.kernel_prepare.proofs.Held.{workable, prepared}
+use Rattle.kernel_prepare.proofs.Held.{workable, prepared, starts_room}
 use Rattle.kernel_start.specs.Choosing.{Startable}
 use Rattle.kernel_start.proofs.Starting.{chosen_below}
-use Rattle.planner.proofs.Sheets.{Roomy, in_parts, few, few_cells_lem, short_buffer, viewed, full_is, FilledWith, row_from, row_within, startable, completable}
+use Rattle.planner.proofs.Sheets.{Roomy, in_parts, few, few_cells_lem, short_buffer, full_is, FilledWith, row_from, row_within, startable, start_of, completable}
+use Rattle.kernel_complete.specs.Completed.{completed}
 use Rattle.planner.proofs.Carried.{carried_out_lem}
 use Rattle.planner.proofs.plan_sheet.Goals.{After-full-full, After-struct_known-1, Else-short}
 use Rattle.planner.proofs.plan_sheet.Goals as goal
 
 -- ---- what is known there
 
-module _ {b : List ℕ} {v : View} (p : (status (read_sheet b) ≡ 0) × (v ≡ view_of b)) where
-  reads : Reads b
-  reads = reads_sheet b p.0
-
-  seen : Viewed b v
-  seen = viewed _ reads p.1
-
 -- past the tests of 20 and 21 there is room
-roomy : (c : Else-short) → let a = c.args in Roomy a.s.now a.cells.now a.buf.now
+roomy : (c : Else-short) → let a = c.args in Roomy a.read.now.sheet.bytes.now a.cells.now a.buf.now
 roomy c = record {
-  bytes = are_bytes_lem c.args.s.now c.type_inv.s;
-  reads = reads c.requires;
+  bytes = c.args.read.now.fit;
+  reads = reads_sheet _ c.args.read.now.reads;
   room = rw (← c.cells_needed.ensures) c.if-few.false;
-  wide = rw (← tasks_are (seen c.requires), ← c.byte_length.ensures) c.if-short.false;
+  wide = rw (← tasks_are c.args.read.now.sheet.viewed, ← c.byte_length.ensures) c.if-short.false;
 }
 
 -- so the kernel can work on the sheet
@@ -38,59 +30,61 @@ works r = workable _ r.bytes r.reads
 
 -- the cells are filled from the numbers and the columns of it
 filled : (c : After-full-full) → let a = c.args in
-    Roomy a.s.now a.cells.now a.buf.now
-    → FilledWith (decode a.s.now) c.numbers-numbers.result c.columns.new.out a.cells.now c.full-full.result a.v.points c.fill.new.cells
+    Roomy a.read.now.sheet.bytes.now a.cells.now a.buf.now
+    → FilledWith (decode a.read.now.sheet.bytes.now) c.numbers-numbers.result c.columns.new.out a.cells.now c.full-full.result a.read.now.sheet.view.points c.fill.new.cells
 filled c r =
     let h = prepared _ r.bytes r.reads _ c.numbers-numbers.ensures c.columns.ensures in
     record {
       prepared = h;
       room = r.room;
-      list = full_is _ r.reads c.requires.1 c.full-full.ensures;
-      points = points_are (seen c.requires);
+      list = full_is _ r.reads c.args.read.now.sheet.viewed.is c.full-full.ensures;
+      points = points_are c.args.read.now.sheet.viewed;
       is = c.fill.ensures _ h;
     }
 
 -- the start is chosen from the row of the full list
 lent : (c : After-full-full) → let a = c.args in
-    Roomy a.s.now a.cells.now a.buf.now
-    → Startable (decode a.s.now) c.numbers-numbers.result.starts a.v.starts (row_from c.full-full.result a.v.points c.fill.new.cells)
-lent c r = startable (filled c r) (starts_are (seen c.requires))
+    Roomy a.read.now.sheet.bytes.now a.cells.now a.buf.now
+    → Startable (decode a.read.now.sheet.bytes.now) (take a.read.now.sheet.view.starts c.numbers-numbers.result.starts)
+    (row_from c.full-full.result a.read.now.sheet.view.points c.fill.new.cells)
+lent c r =
+    startable (filled c r) (starts_are c.args.read.now.sheet.viewed) (starts_room _ c.numbers-numbers.ensures (works r).counts)
 
 -- 32 bits times 16 bits are far below 64
-small : (c : After-struct_known-1) → c.full-full.result * c.args.v.points ≤ 4294967295 * 65535
+small : (c : After-struct_known-1) → c.full-full.result * c.args.read.now.sheet.view.points ≤ 4294967295 * 65535
 small c =
     let k : c.full-full.result ≤ 4294967295 = omega arith in
-    let n : c.args.v.points ≤ 65535 = omega arith in
+    let n : c.args.read.now.sheet.view.points ≤ 65535 = omega arith in
     mul-le-mul k n
 
 -- ---- the goals
 
 pub cells_needed-requires : goal.cells_needed-requires
-cells_needed-requires c = (seen c.requires, few _ (reads c.requires))
+cells_needed-requires c = few _ (reads_sheet _ c.args.read.now.reads)
 
 -- 20: too few cells
 pub returns-then-few : goal.returns-then-few
 returns-then-few c =
     let a = c.args in
-    let parts = in_parts (few_cells_lem a.s.now (reads c.requires) a.cells.now a.buf.now (rw (← c.cells_needed.ensures) c.if-few.true)) in
+    let parts = in_parts (few_cells_lem a.read.now.sheet.bytes.now (reads_sheet _ c.args.read.now.reads) a.cells.now a.buf.now (rw (← c.cells_needed.ensures) c.if-few.true)) in
     record { answer = parts.0; cells = parts.1.0; bytes = parts.1.1 }
 
 -- 21: too short a buffer
 pub returns-then-short : goal.returns-then-short
 returns-then-short c =
     let a = c.args in
-    let parts = in_parts (short_buffer a.s.now (reads c.requires) a.cells.now a.buf.now (rw (← c.cells_needed.ensures) c.if-few.false)
-    (rw (← tasks_are (seen c.requires), ← c.byte_length.ensures) c.if-short.true)) in
+    let parts = in_parts (short_buffer a.read.now.sheet.bytes.now (reads_sheet _ c.args.read.now.reads) a.cells.now a.buf.now (rw (← c.cells_needed.ensures) c.if-few.false)
+    (rw (← tasks_are c.args.read.now.sheet.viewed, ← c.byte_length.ensures) c.if-short.true)) in
     record { answer = parts.0; cells = parts.1.0; bytes = parts.1.1 }
 
 pub numbers-numbers-requires : goal.numbers-numbers-requires
 numbers-numbers-requires c =
-    let w = works (roomy (goal.at.numbers-numbers-requires c).Else-short) in (seen c.requires, w.counts, w.plannable.ranges)
+    let w = works (roomy (goal.at.numbers-numbers-requires c).Else-short) in (w.counts, w.plannable.ranges)
 
 pub columns-requires : goal.columns-requires
 columns-requires c =
     let w = (works (roomy (goal.at.columns-requires c).Else-short)).counts.points in
-    (seen c.requires, omega (arith, mul-le-mul w w))
+    omega (arith, mul-le-mul w w)
 
 pub fill-requires : goal.fill-requires
 fill-requires c =
@@ -119,21 +113,29 @@ first_start-start-requires c =
 pub bounds-starts-start : goal.bounds-starts-start
 bounds-starts-start c =
     let p = goal.at.bounds-starts-start c in
-    let r = roomy p.Else-short in
-    omega (arith, chosen_below _ _ (c.first_start-start.ensures _ (lent p.After-full-full r)), (works r).counts.starts)
+    let l = lent p.After-full-full (roomy p.Else-short) in
+    rw l.count (chosen_below _ _ (c.first_start-start.ensures _ l))
+
+-- the array has room for the starts
+pub shared_ref_as_front-starts : goal.shared_ref_as_front-starts
+shared_ref_as_front-starts c =
+    rw (starts_are c.args.read.now.sheet.viewed) (works (roomy (goal.at.shared_ref_as_front-starts c).Else-short)).counts.starts
 
 pub complete-x-requires : goal.complete-x-requires
 complete-x-requires c =
     let p = goal.at.complete-x-requires c in
     let r = roomy p.Else-short in
-    (_, completable (filled p.After-full-full r) (chosen_below _ _ (c.first_start-start.ensures _ (lent p.After-full-full r))))
+    (_, completable (filled p.After-full-full r) (starts_are c.args.read.now.sheet.viewed) (chosen_below _ _ (c.first_start-start.ensures _ (lent p.After-full-full r))))
 
 -- the plan is carried out
 pub returns : goal.returns
 returns c =
     let p = goal.at.returns c in
+    let v = c.args.read.now.sheet.viewed in
     let r = roomy p.Else-short in
     let f = filled p.After-full-full r in
     let s = c.first_start-start.ensures _ (lent p.After-full-full r) in
-    let done = carried_out_lem r f s (c.complete-x.ensures _ (completable f (chosen_below _ _ s))) (tasks_are (seen c.requires)) c.write.ensures.bytes in
+    let below = chosen_below _ _ s in
+    let hand = c.complete-x.ensures _ (completable f (starts_are v) below) ∙ ap (completed _ c.full-full.result) (start_of f (starts_are v) below) in
+    let done = carried_out_lem r f s hand (tasks_are v) c.write.ensures.bytes in
     record { answer = done.0; cells = done.1.0; bytes = done.1.1 }

@@ -1,6 +1,5 @@
 -- The start that was chosen is one of the sheet's, so its point has a cell in the row. Assumes nothing.
 use Rattle.model.proofs.Basics.{ap, ℕ, ◌*◌, ◌^◌, ◌<◌, arith, length, get_or}
-use Rattle.model.specs.{max_starts}
 use Rattle.kernel_start.specs.Choosing.{start_cost}
 use Rattle.kernel_start.proofs.Starting.{chosen_below, start_in_lem}
 use Rattle.price.proofs.quote_by.Goals.{After-first_start-start}
@@ -10,11 +9,12 @@ use Rattle.price.proofs.quote_by.Goals as goal
 there : (c : After-first_start-start) →
     let a = c.args in
     let p = get_or a.starts.now c.first_start-start.result 0 in
-    (c.first_start-start.result < max_starts) × (p < length a.row.now) × (p * 8 < 2 ^ 64)
+    (c.first_start-start.result < length a.starts.now) × (p < length a.row.now) × (p * 8 < 2 ^ 64)
 there c =
     let h = c.requires.1 in
+    let below : c.first_start-start.result < length c.args.starts.now = rw h.count (chosen_below _ _ (c.first_start-start.ensures _ h)) in
     let t = start_in_lem h c.first_start-start.result (rw h.count (chosen_below _ _ (c.first_start-start.ensures _ h))) in
-    (t.0, t.1, omega (arith, t.1, c.well_formed))
+    (below, t.1, omega (arith, t.1, c.well_formed))
 
 pub returns : goal.returns
 unfolding start_cost
