@@ -68,7 +68,7 @@ function fail(what) {
 }
 { jumped = 0 }
 
-# A frame larger than a page is taken page by page, down to where %r11 says.
+# A frame larger than a page is taken step by step, down to where %r11 says: the first step stands in the loop, and is no more of it.
 /\tsub +\$0x[0-9a-f]+,%r11$/ && !calls[name] && depth == body {
     deepen(number())
     probed = 1
@@ -76,7 +76,7 @@ function fail(what) {
     next
 }
 
-/\tsub +\$0x1000,%rsp$/ && probed { probed = 0; next }
+/\tsub +\$0x[0-9a-f]+,%rsp$/ && probed { probed = 0; next }
 /\tsub +\$0x[0-9a-f]+,%rsp$/ { deepen(number()) }
 /\tadd +\$0x[0-9a-f]+,%rsp$/ { depth -= number(); next }
 /\tpush +/ { deepen(8) }

@@ -1,9 +1,10 @@
 // Bellman's equation: the row of a list, from any rows in which its rests stand. A list is opened and its doors are gathered, and each point has the least over them.
 #![tactic(auto)]
 
-ghost use Rattle.std.specs.Prelude.{◌≡◌, map, length, take};
+ghost use Rattle.std.specs.Prelude.{◌≡◌, map, length, take, replicate};
 ghost use Rattle.model.specs.Folds.{map_below};
 ghost use Rattle.model.specs.Sheet.{Sheet};
+ghost use Rattle.model.specs.SheetLayout.{max_doors};
 ghost use Rattle.model.specs.Plans.{cost_to_go};
 ghost use Rattle.kernel_gather.specs.Gathering.{doors_in, way_at};
 ghost use Rattle.kernel_bellman.specs.Rests.{Rests, Listed, OpenList};
@@ -11,6 +12,7 @@ ghost use Rattle.kernel_bellman.specs.Rests.{Rests, Listed, OpenList};
 use kernel_sheet::{MAX_DOORS, Numbers, Way};
 
 // What rows are made from: the numbers of a sheet, its distances by columns, and of each door which end its slot names and how far before it the rest behind the door stands.
+// That all are of one sheet is `Arrayed`, of any sheet S, which no field can name.
 #[derive(Clone, Copy)]
 pub struct Sources<'a> {
     pub numbers: &'a Numbers,
@@ -27,7 +29,11 @@ pub struct Room {
 }
 
 impl Room {
-    pub fn new() -> Self {
+    // Empty room.
+    pub fn new() -> Self
+        ensures sums { result.sums ≡ replicate max_doors 0 }
+        ensures ways { result.ways ≡ replicate max_doors (record { begin = 0; part = 0 }) }
+    {
         Room {
             sums: [0; MAX_DOORS],
             ways: [Way { begin: 0, part: 0 }; MAX_DOORS],
@@ -37,7 +43,7 @@ impl Room {
 
 // What a list has once its doors are gathered: its load, the set of these doors, and how many they are.
 #[derive(Clone, Copy)]
-pub struct AtHand {
+pub struct GatheredList {
     pub load: u32,
     pub doors: u64,
     pub count: usize,
@@ -51,7 +57,7 @@ pub fn gather(
     ends: &[usize],
     cells: &[u64],
     room: &mut Room,
-) -> AtHand
+) -> GatheredList
     requires { (S : Sheet) × Listed S from.now.numbers.now k waiting from.now.columns.now × Rests S k from.now.slot.now from.now.back.now ends.now cells.now }
     ensures open { (S : Sheet) → Listed S from.now.numbers.now k waiting from.now.columns.now → Rests S k from.now.slot.now from.now.back.now ends.now cells.now → OpenList S k result.load result.doors room.old.sums room.new.sums from.now.slot.now from.now.back.now ends.now cells.now }
     ensures count { result.count ≡ length (doors_in result.doors) }
@@ -69,7 +75,7 @@ pub fn gather(
         cells,
         &mut room.ways,
     );
-    AtHand {
+    GatheredList {
         load: open.load,
         doors: open.doors,
         count,

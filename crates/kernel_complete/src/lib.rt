@@ -39,7 +39,7 @@ fn next_door(from: &Sources, p: u16, k: u32, cells: &[u64], room: &mut Room) -> 
     kernel_gather::door_at(hand.doors, i)
 }
 
-// The cheapest completion from point p with list k open, which is one that the pairs allow, in hand.
+// The cheapest completion from point p with list k open, which is one that the pairs allow, in hand. Kept out of its caller, in whose frame its arrays would take more of the stack.
 #[inline(never)]
 pub fn complete(x: &Numbers, columns: &[u64], p: u16, k: u32, cells: &[u64]) -> Plan
     requires { (S : Sheet) × Completable S x.now columns.now k p cells.now }

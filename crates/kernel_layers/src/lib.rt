@@ -11,7 +11,7 @@ use kernel_bellman::{Room, Sources};
 use kernel_sheet::{MAX_DOORS, Numbers};
 use rank::Pascal;
 
-// How far before the end of its row the cell of the rest behind each door stands.
+// How far before the end of its row the cell of the rest behind each door stands. In the table it stands in the row of another list, so `kernel_table::backs` shares the loop alone.
 fn backs(x: &Numbers) -> [u32; MAX_DOORS]
     requires { Backable x.now.counts.points x.now.counts.doors x.now.doors.depart }
     ensures { result ≡ backs_of x.now.counts.points x.now.counts.doors x.now.doors.depart }
@@ -64,6 +64,7 @@ fn size_rows(from: &Sources, table: &Pascal, m: u16, below: &[u64], here: &mut [
 }
 
 // Writes the rows of every essential list, size after size, from the end costs. A layer is overwritten only when the one above has been filled from it.
+// The layer goes by the parity of the size, and the two are lent under two names: the form that the scope fixes.
 fn sizes_rows(from: &Sources, even: &mut [u64], odd: &mut [u64])
     requires { (S : Sheet) × Arrayed S from.now.numbers.now from.now.columns.now × ReceiversOf S from.now.numbers.now.tasks.receivers × LayerRests S from.now.slot.now from.now.back.now × Roomy S even.old odd.old × Shows S 0 even.old }
     ensures { (S : Sheet) → Arrayed S from.now.numbers.now from.now.columns.now → ReceiversOf S from.now.numbers.now.tasks.receivers → LayerRests S from.now.slot.now from.now.back.now → Shows S 0 even.old → Half S 0 S.tasks even.old even.new × Half S 1 S.tasks odd.old odd.new }

@@ -25,8 +25,8 @@ fn lowered(least: f64, distance: u64, load: u32, part: u64) -> f64
     )
 }
 
-// Lowers the least of each point by two doors more, with the columns of the points where they arrive. By place: of what is written through `iter_mut` a proof knows the length
-// alone.
+// Lowers the least of each point by two doors more, with the columns of the points where they arrive. By place: three slices are read at one
+// place, and of what is written through an adapter of `iter_mut` a proof knows nothing.
 fn lower(
     first: &[u64],
     second: &[u64],
@@ -44,7 +44,7 @@ fn lower(
     }
 }
 
-// Writes the numbers that stand in the floats, by place for the same reason.
+// Writes the numbers that stand in the floats, by place as `lower` does.
 fn settle(leasts: &[f64], out: &mut [u64])
     requires { (length leasts.now ≡ length out.old) × ((f : ℕ → ℕ) × Held f (length out.old) leasts.now) }
     ensures { (f : ℕ → ℕ) → Held f (length out.old) leasts.now → out.new ≡ map_below (length out.old) f }
@@ -76,11 +76,12 @@ pub fn row(columns: &[u64], load: u32, ways: &[Way], out: &mut [u64])
     settle(&leasts[..points], out);
 }
 
-// Writes the row of the empty list: the end costs.
+// Writes the row of the empty list: the end costs. By place: `copy_from_slice` calls `memmove`, which no other call of the library does.
 pub fn end_row(ends: &[u64; MAX_POINTS], out: &mut [u64])
     requires { length out.old ≤ max_points }
     ensures { out.new ≡ map_below (length out.old) (λ p. get_or ends.now p 0) }
 {
-    let points = out.len();
-    out.copy_from_slice(&ends[..points]);
+    for p in 0..out.len() {
+        out[p] = ends[p];
+    }
 }

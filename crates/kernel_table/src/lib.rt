@@ -14,7 +14,7 @@ ghost use Rattle.kernel_table.specs.Cells.{Shown, Begun, backs_of, Backable, Tab
 use kernel_bellman::{Room, Sources};
 use kernel_sheet::{MAX_DOORS, Numbers};
 
-// How far before the row of a list the cell of the rest behind each door stands.
+// How far before the row of a list the cell of the rest behind each door stands. That of `kernel_layers` counts within one row, this one to another list's.
 pub fn backs(x: &Numbers) -> [u32; MAX_DOORS]
     requires { Backable x.now.counts.points x.now.counts.doors x.now.doors.task x.now.doors.depart }
     ensures { result ≡ backs_of x.now.counts.points x.now.counts.doors x.now.doors.task x.now.doors.depart }

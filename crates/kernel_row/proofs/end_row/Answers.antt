@@ -1,10 +1,16 @@
--- The first end costs, point by point. Assumes nothing.
-use Rattle.model.proofs.Basics.{◌∙◌, sym, arith, length, ext_get_or, get_or-take, length-take-le}
-use Rattle.model.proofs.Tools.Folds.{length_map_below, map_below_at}
+-- Point after point from the front. Assumes nothing.
+use Rattle.model.proofs.Basics.{refl, arith, length}
+use Rattle.model.proofs.Tools.Arrays.{none_filled, one_filled, all_filled}
 use Rattle.kernel_row.proofs.end_row.Goals as goal
+
+pub loop-p-init : goal.loop-p-init
+loop-p-init c =
+    none_filled _ _
+
+pub loop-p-preserved : goal.loop-p-preserved
+loop-p-preserved c =
+    one_filled c.loop-p.invariant _ _ (omega (arith, c.loop-p.invariant.size, c.loop-p-test.true)) refl refl
 
 pub returns : goal.returns
 returns c =
-    let n = length c.args.out.now in
-    let long = length-take-le n c.args.ends.now (omega (arith, c.requires)) in
-    c.copy_from_slice.ensures.after ∙ ext_get_or 0 _ _ (long ∙ sym (length_map_below n _)) (λ p l. get_or-take n c.args.ends.now p 0 (omega (arith, long)) ∙ sym (map_below_at n _ p 0 (omega (arith, long))))
+    all_filled c.loop-p.invariant (omega arith)
