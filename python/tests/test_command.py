@@ -152,6 +152,12 @@ def within(seconds: int) -> Iterator[None]:
         signal.signal(signal.SIGALRM, before)
 
 
+def await_sleep(child: subprocess.Popen[str]) -> None:
+    """Waits until this process sleeps. An interruption just before it begins to read is heard only when the read ends."""
+    while Path(f"/proc/{child.pid}/stat").read_text().rpartition(")")[2].split()[0] not in ("S", "Z"):
+        time.sleep(0.001)
+
+
 class InFolder(unittest.TestCase):
     """A test in a folder of its own, which is the current one."""
 
@@ -1503,6 +1509,7 @@ class Streams(InFolder):
                 ) as child:
                     # It opens once the other side does, and so the command is at work.
                     with open("folder/b.sheet", "wb"):
+                        await_sleep(child)
                         child.send_signal(signal.SIGINT)
                         out, err = child.communicate()
                 self.assertEqual(Ran(child.returncode, out, err), Ran(130, "", "vanplan: interrupted\n"))
