@@ -51,11 +51,11 @@ function fail(what) {
     next
 }
 
-# Where a call goes, or a jump out of the function, stands on the line behind it.
+# Where a call goes, or a jump out of the function, stands on the line behind it, by its section: .text and the name, .text.unlikely where it is cold.
 /R_X86_64_(PLT32|PC32)/ {
     target = $NF
     sub(/-0x4$/, "", target)
-    sub(/^\.text\./, "", target)
+    sub(/^\.text\.(unlikely\.)?/, "", target)
     if (jumped) {
         calls[name]++
         at[name, calls[name]] = depth - 8

@@ -1,9 +1,8 @@
 -- The lists one by one, from the empty one on: the sum is the load of the list, and none so far is essential with a load below zero. Assumes nothing.
-use Rattle.model.proofs.Basics.{◌≡◌, refl, sym, ap, ap₂, ◌∙◌, Bool, true, false, ◌&&◌, and-false, and-true, List, ℕ, zero, suc, ◌+◌, ◌-◌, ◌^◌, ◌≤◌, ◌<◌, arith, get_or, length}
+use Rattle.model.proofs.Basics.{◌≡◌, refl, sym, ap, ap₂, ◌∙◌, Bool, true, false, ◌&&◌, and-false, and-true, List, ℕ, zero, suc, ◌+◌, ◌-◌, ◌^◌, ◌≤◌, ◌<◌, arith, get_or}
 use Rattle.model.proofs.Basics.{ℤ, pos, ◌+ℤ◌, to_z, of_z, SFits, to_z-of_z, to_z_pos, +ℤ_idr, lt_z}
 use Rattle.model.specs.{map_below, load_below, load, essential, light_list, too_light, max_tasks, mask_bits, senders_of, InRange}
 use Rattle.model.specs.Sheet.{Sheet}
-use Rattle.model.proofs.Tools.Folds.{length_map_below}
 use Rattle.model.proofs.Tools.Searches.{Searched, none_tried, next, none_found, found}
 use Rattle.model.proofs.TaskLists.Masks.{bit_none}
 use Rattle.model.proofs.TaskLists.Lowest.{Lowest, lowest, task_below}
@@ -81,11 +80,12 @@ module _ {S : Sheet} {steps : List ℤ} {lists : ℕ} {sum : ℤ} {k : ℕ} (h :
   heavy e = passed_by (ap (λ b. essential S k && b) (ap (λ z. lt_z z (pos 0)) (sym held) ∙ e) ∙ and-false (essential S k))
 
   -- it is below zero, and c is what the code finds of its senders
-  module _ (R : InRange S) (e : lt_z (to_z w32 (of_z w32 total)) (pos 0) ≡ true) {c : Bool} {ws : List ℕ} (q : c ≡ closed_by ws (length ws) k) (w : ws ≡ map_below S.tasks (senders_of S)) where
+  module _ (R : InRange S) (e : lt_z (to_z w32 (of_z w32 total)) (pos 0) ≡ true) {c : Bool} {m have : ℕ} {ws : List ℕ} (q : c ≡ closed_by ws m k)
+      (w : ws ≡ map_below have (senders_of S)) (o : m ≡ S.tasks) (all : S.tasks ≤ have) where
     is_light : c ≡ light_list S k
     unfolding light_list
     is_light =
-        q ∙ rw (w, length_map_below) (closed_is S R few k S.tasks (omega arith) (λ z. omega (arith, h.above)))
+        q ∙ rw (w, o) (closed_is S R few k have all (λ z. omega (arith, h.above)))
         ∙ sym (ap (λ b. essential S k && b) (ap (λ z. lt_z z (pos 0)) (sym held) ∙ e) ∙ and-true (essential S k))
 
     pub light : c ≡ true → true ≡ too_light S

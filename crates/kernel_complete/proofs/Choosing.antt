@@ -1,5 +1,5 @@
 -- A list that can be completed: its cell, that it can be opened, where its rests stand, and its next door. Assumes nothing.
-use Rattle.model.proofs.Basics.{◌≡◌, sym, subst, ◌≢◌, true, List, [], ◌∷◌, ℕ, ◌+◌, ◌*◌, arith, get_or, ne_eqb}
+use Rattle.model.proofs.Basics.{◌≡◌, sym, subst, ◌≢◌, true, List, [], ◌∷◌, ℕ, ◌+◌, ◌*◌, ◌<◌, arith, length, get_or, ne_eqb}
 use Rattle.model.specs.{essential, pairs_allow, cost_to_go}
 use Rattle.model.specs.Sheet.{Sheet}
 use Rattle.kernel_sheet.specs.declared.Numbers.{Numbers}
@@ -23,7 +23,11 @@ module _ {S : Sheet} {x : Numbers} {columns : List ℕ} {K p : ℕ} {cells : Lis
   points : x.counts.points ≡ S.points
   points = C.prepared.numbers.counts.points
 
-  -- what stands in its cell
+  -- its cell
+  pub cell_in : K * x.counts.points + p < length cells
+  cell_in = rw points (omega (arith, C.point, C.room))
+
+  -- what stands there
   pub cell_is : get_or cells (K * x.counts.points + p) 0 ≡ cost_to_go S K p
   cell_is = rw points (C.known K p (omega arith) C.allowed C.point)
 

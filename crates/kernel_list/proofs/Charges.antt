@@ -1,12 +1,13 @@
 -- How often a rule is charged, and what the rules cost on every door, one rule at a time. Assumes nothing.
-use Rattle.model.proofs.Basics.{◌≡◌, refl, sym, ◌∙◌, ◌≢◌, Bool, true, false, cond, ◌&&◌, List, ℕ, ◌+◌, ◌-◌, ◌*◌, ◌^◌, ◌≤◌, ◌<◌, min, arith, length, get_or, set, length-set}
+use Rattle.model.proofs.Basics.{◌≡◌, refl, sym, ◌∙◌, ◌≢◌, Bool, true, false, cond, ◌&&◌, List, ℕ, ◌+◌, ◌-◌, ◌*◌, ◌^◌, ◌≤◌, ◌<◌, min, lt_of_le_of_lt, arith, length, get_or, set, length-set}
 use Rattle.model.proofs.Basics.{get_or-set_same, get_or-set_other, ext_get_or, eqb, ltb, ltb-true, ltb-false, eqb-true, eqb-false, eq-eqb, ne_eqb, add-one, add-zero, mul-le-mul, ap, replicate}
-use Rattle.model.specs.{map_below, overwrite, member, count_below, watched_in, max_doors, max_rules}
+use Rattle.model.specs.{map_below, overwrite, bit, member, count_below, watched_in, max_doors, max_rules}
 use Rattle.model.proofs.Tools.Folds.{length_map_below, map_below_at, sum_cong, sum_le, sum_none}
 use Rattle.model.proofs.Tools.Arrays.{front_at, front_behind, front_size}
 use Rattle.model.proofs.Tools.Tests.{by_test}
-use Rattle.tasklist.proofs.Shifts.{counted_in}
-use lib.Bits.{bit_and}
+use Rattle.model.proofs.TaskLists.Masks.{bit_lt}
+use Rattle.tasklist.proofs.Shifts.{ones_sum, counted_in}
+use lib.Bits.{bit_and, and_le_l}
 use lib.Count.{ones}
 use Rattle.kernel_list.specs.Lists.{watch_bits, times_by, times_of, charged_at, sum_at, Addable, Chargeable}
 
@@ -15,6 +16,10 @@ cond_le true = omega arith
 cond_le false = omega arith
 
 -- ---- how often
+
+pub ones_few : (W K : ℕ) → K < 2 ^ watch_bits → ones (bit_and K W) ≤ watch_bits
+ones_few W K l = rw (ones_sum watch_bits (bit_and K W) (lt_of_le_of_lt (and_le_l K W) l))
+    (omega (arith, sum_le watch_bits 1 (bit (bit_and K W)) (λ j m. omega (arith, bit_lt (bit_and K W) j))))
 
 -- by the count of the masked list
 pub times_is : (W L M K : ℕ) → K < 2 ^ watch_bits → times_by W L M K ≡ min (ones (bit_and K W) + 1 - L) M
@@ -64,6 +69,10 @@ module _ {doors charges : List ℕ} {times : ℕ → ℕ} {before after : List �
         (λ w. let s : e ≡ d = eqb-true e d w in omega (arith, h.bound d, charged_here doors charges times i d (sym on ∙ s), is, small))
         (λ w. let s : e ≢ d = eqb-false e d w in omega (arith, h.bound d, charged_elsewhere doors charges times i d (λ z. s (on ∙ z))));
   }
+
+  -- no sum is too large
+  pub sum_small : {e : ℕ} → e < length before → get_or before e 0 < 2 ^ 32 → i ≤ max_rules → get_or after e 0 < 2 ^ 54
+  sum_small {e} l b m = omega (arith, h.each e l, h.bound e)
 
   pub all_charged : (n : ℕ) → i ≡ n → length before ≡ max_doors → after ≡ map_below max_doors (λ d. get_or before d 0 + charged_at doors charges times n d)
   all_charged n e s = ext_get_or 0 after _ (h.size ∙ s ∙ sym (length_map_below max_doors _)) (λ d l.

@@ -1,5 +1,5 @@
 -- A list walked by its lowest task, which is struck off: what is left of it, and that a fold over the tasks passes over those that are not in it. Assumes nothing.
-use Rattle.model.proofs.Basics.{◌≡◌, sym, ap, ◌∙◌, ℕ, zero, suc, ◌+◌, ◌-◌, ◌^◌, ◌≤◌, ◌<◌, add-one, arith, ltb, ltb-true, ltb-false, pow_pos}
+use Rattle.model.proofs.Basics.{◌≡◌, refl, sym, ap, ◌∙◌, ℕ, zero, suc, ◌+◌, ◌-◌, ◌^◌, ◌≤◌, ◌<◌, add-one, arith, ltb, ltb-true, ltb-false, pow_pos}
 use Rattle.model.specs.{bit, without, mask_bits, max_tasks}
 use Rattle.model.proofs.Tools.Tests.{by_test, by_last}
 use Rattle.model.proofs.TaskLists.Masks.{bit_none, bit_le, without_is, without_same, without_other}
@@ -20,6 +20,9 @@ pub record Left (K left u : ℕ) : Type 0 where
   pub part : left ≤ K
   pub below : (j : ℕ) → j < u → bit left j ≡ 0
   pub above : (j : ℕ) → u ≤ j → bit left j ≡ bit K j
+
+pub all_left : (K : ℕ) → Left K K 0
+all_left K = record { few = omega arith; part = omega arith; below = λ j l. absurd (omega arith); above = λ j l. refl }
 
 -- f of the tasks below n, which one that is not in K does not change, is the same across tasks that are not in K
 gap : {A : Type 0} (f : ℕ → A) (K u d : ℕ) → ((j : ℕ) → bit K j ≡ 0 → f (suc j) ≡ f j) → ((j : ℕ) → u ≤ j → j < u + d → bit K j ≡ 0) → f (u + d) ≡ f u

@@ -1,10 +1,24 @@
 -- The leasts of a row, lowered from the front by a loop: each stands in a float, and what stood there before is lowered by what its point costs. Assumes nothing.
-use Rattle.model.proofs.Basics.{◌≡◌, refl, ◌∙◌, List, ℕ, ◌+◌, ◌≤◌, ◌<◌, arith, length, get_or, set, length-set, get_or-set_same}
+use Rattle.model.proofs.Basics.{◌≡◌, refl, ◌∙◌, List, ℕ, ◌+◌, ◌*◌, ◌%◌, ◌^◌, ◌≤◌, ◌<◌, arith, length, get_or, set, length-set, get_or-set_same}
 use Rattle.model.proofs.Basics.{get_or-set_other}
 use Rattle.model.proofs.Tools.Tests.{by_last}
+use native.Mathlib.Nat.{mod-eq_of_lt}
 use lib.Ieee.{Float, nan}
 use Rattle.minimum.specs.Floats.{Holds}
+use Rattle.kernel_row.specs.Leasts.{no_cost}
 use Rattle.kernel_row.specs.Held.{Held}
+
+-- ---- the cost through a door
+
+-- the distance of 32 bits, as the code takes it
+module _ (distance load part : ℕ) (wide : distance < 2 ^ 32) where
+  pub cost_is : distance % 2 ^ 32 * load + part ≡ distance * load + part
+  cost_is = rw (mod-eq_of_lt wide)
+
+  pub cost_small : distance * load + part < no_cost → distance % 2 ^ 32 * load + part < no_cost
+  cost_small h = rw cost_is h
+
+-- ---- floats that a loop lowers
 
 -- the numbers before place p are lowered, each by `low` of its place, and the floats from p on are as they were
 pub record LoweredBelow (low : ℕ → ℕ → ℕ) (before after : List Float) (p : ℕ) : Type 0 where

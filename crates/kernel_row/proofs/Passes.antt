@@ -1,12 +1,11 @@
 -- The leasts over the doors passed, which a row has in floats, two doors more with each pass. Assumes nothing.
 use Rattle.model.proofs.Basics.{◌≡◌, refl, sym, ap, ap₂, ◌∙◌, List, ◌++◌, ℕ, zero, suc, ◌+◌, ◌-◌, ◌*◌, ◌≤◌, ◌<◌, add-zero, min, arith}
-use Rattle.model.proofs.Basics.{length, get_or, take, drop, replicate, length-append, length-replicate, get_or-replicate, get_or-take, length-take, List·getD-append, drop-append_seam}
+use Rattle.model.proofs.Basics.{length, get_or, take, drop, replicate, length-append, get_or-replicate, get_or-take, length-take, List·getD-append, drop-append_seam}
 use Rattle.model.proofs.Tools.Tests.{by_last}
 use lib.ListN.{length-drop}
 use lib.Seq.{get_or-drop, drop-drop}
 use lib.Ieee.{Float, nan}
 use Rattle.minimum.specs.Floats.{Holds}
-use Rattle.model.specs.{max_points}
 use Rattle.kernel_sheet.specs.declared.Way.{Way}
 use Rattle.kernel_row.specs.Leasts.{no_cost, least_below, nth_way, through_gathered, least_from, Gathered}
 use Rattle.kernel_row.specs.Held.{Held, Column}
@@ -39,7 +38,6 @@ column_length columns at n room = omega (arith, length-take n (take (length colu
 
 -- where some doors are left, the doors before them are passed
 pub record Passed (columns : List ℕ) (P load : ℕ) (ways left : List Way) (leasts : List Float) : Type 0 where
-  pub room : length leasts ≡ max_points
   pub few : length left ≤ length ways
   pub last : left ≡ drop (length ways - length left) ways
   pub held : Held (λ p. least_below (length ways - length left) (through_gathered columns load ways p)) P leasts
@@ -54,7 +52,7 @@ module _ {columns : List ℕ} {P load : ℕ} {ways : List Way} (h : Gathered col
     unfolding through_gathered
     cost_is p k = rw (column_entry columns from P p (h.column i l) k) refl
 
-    column_of : Column P (column_at columns from P) load (nth_way ways i).part
+    pub column_of : Column P (column_at columns from P) load (nth_way ways i).part
     column_of = record {
       size = column_length columns from P (h.column i l);
       wide = λ p k. rw (column_entry columns from P p (h.column i l) k) (h.wide p i k l);
@@ -62,18 +60,17 @@ module _ {columns : List ℕ} {P load : ℕ} {ways : List Way} (h : Gathered col
     }
 
   -- before the first door
-  pub none_passed : (left : List Way) (x : Float) → left ≡ ways → P ≤ max_points → Holds x no_cost → Passed columns P load ways left (replicate max_points x)
-  none_passed left x q few e = record {
-    room = length-replicate max_points x;
+  pub none_passed : (left : List Way) (n : ℕ) (x : Float) → left ≡ ways → P ≤ n → Holds x no_cost → Passed columns P load ways left (replicate n x)
+  none_passed left n x q few e = record {
     few = rw q (omega arith);
     last = let z : length ways - length ways ≡ 0 = omega arith in rw (q, z) refl;
     held = λ p l.
         let z : length ways - length ways ≡ 0 = omega arith in
-        rw (q, z, get_or-replicate max_points p x nan (omega arith)) e;
+        rw (q, z, get_or-replicate n p x nan (omega arith)) e;
   }
 
   -- two doors more, or the last one: they are cut off the doors that are left
-  module _ {left : List Way} {leasts : List Float} (H : Passed columns P load ways left leasts) (pair rest : List Way) (cut : left ≡ pair ++ rest) (size : length pair ≡ min 2 (length left)) (some : 0 < length left) where
+  module _ {left : List Way} (fewer : length left ≤ length ways) (end : left ≡ drop (length ways - length left) ways) (pair rest : List Way) (cut : left ≡ pair ++ rest) (size : length pair ≡ min 2 (length left)) (some : 0 < length left) where
     abbrev passed : ℕ
     passed = length ways - length left
 
@@ -81,26 +78,25 @@ module _ {columns : List ℕ} {P load : ℕ} {ways : List Way} (h : Gathered col
     long = ap length cut ∙ length-append pair rest
 
     pair_at : (k : ℕ) → k < length pair → nth_way pair k ≡ nth_way ways (passed + k)
-    pair_at k l = sym (List·getD-append pair rest _ k l) ∙ ap (λ (ys : List Way). nth_way ys k) (sym cut ∙ H.last) ∙ get_or-drop passed ways k _
+    pair_at k l = sym (List·getD-append pair rest _ k l) ∙ ap (λ (ys : List Way). nth_way ys k) (sym cut ∙ end) ∙ get_or-drop passed ways k _
 
     pub column_of_pair : (k : ℕ) → k < length pair → Column P (column_at columns (nth_way pair k).begin P) load (nth_way pair k).part
-    column_of_pair k l = rw (pair_at k l) (column_of (passed + k) (omega (arith, long, H.few)))
+    column_of_pair k l = rw (pair_at k l) (column_of (passed + k) (omega (arith, long, fewer)))
 
     cost_of_pair : (k : ℕ) → k < length pair → (p : ℕ) → p < P
         → get_or (column_at columns (nth_way pair k).begin P) p 0 * load + (nth_way pair k).part ≡ through_gathered columns load ways p (passed + k)
-    cost_of_pair k l p m = rw (pair_at k l) (cost_is (passed + k) (omega (arith, long, H.few)) p m)
+    cost_of_pair k l p m = rw (pair_at k l) (cost_is (passed + k) (omega (arith, long, fewer)) p m)
 
     -- `after` is what the code makes of the leasts
-    pub pass : (after behind : List Float) → length after ≡ P → length (after ++ behind) ≡ max_points
+    pub pass : (after behind : List Float) → length after ≡ P
         → Held (λ p. min (min (least_below passed (through_gathered columns load ways p)) (get_or (column_at columns (nth_way pair 0).begin P) p 0 * load + (nth_way pair 0).part))
         (get_or (column_at columns (nth_way pair (length pair - 1)).begin P) p 0 * load + (nth_way pair (length pair - 1)).part)) P after
         → Passed columns P load ways rest (after ++ behind)
-    pass after behind e room g =
-        let n : length ways - length rest ≡ passed + length pair = omega (arith, long, H.few) in
+    pass after behind e g =
+        let n : length ways - length rest ≡ passed + length pair = omega (arith, long, fewer) in
         record {
-          room = room;
-          few = omega (arith, long, H.few);
-          last = sym (drop-append_seam pair rest) ∙ ap (drop (length pair)) (sym cut ∙ H.last) ∙ drop-drop (length pair) passed ways ∙ ap (λ (m : ℕ). drop m ways) (sym n);
+          few = omega (arith, long, fewer);
+          last = sym (drop-append_seam pair rest) ∙ ap (drop (length pair)) (sym cut ∙ end) ∙ drop-drop (length pair) passed ways ∙ ap (λ (m : ℕ). drop m ways) (sym n);
           held = λ p q. rw (
             List·getD-append after behind nan p (omega arith),
             n,

@@ -1,6 +1,6 @@
 -- Where the rests of a list stand in the table, counted back from its own row. Assumes nothing.
 use Rattle.model.proofs.Basics.{◌≡◌, sym, ap, ◌∙◌, true, List, [], ◌∷◌, ◌++◌, append_assoc, ℕ, ◌+◌, ◌-◌, ◌*◌, ◌%◌, ◌^◌, ◌≤◌, ◌<◌, arith, length, get_or, take, drop, replicate}
-use Rattle.model.proofs.Basics.{mul-le-mul_right, get_or-replicate, pow_pos, pow_mono, mul-le-mul, length-append, length-take-le, take-append_seam}
+use Rattle.model.proofs.Basics.{mul-le-mul_right, get_or-replicate, pow_pos, pow_mono, mul-le-mul, le_refl, length-append, length-take-le, take-append_seam}
 use Rattle.model.proofs.Basics.{le-leb, List·getD-append}
 use Rattle.model.specs.{map_below, overwrite_at, without, pairs_allow, cost_to_go, max_tasks, max_doors, InRange}
 use Rattle.model.specs.Sheet.{Sheet}
@@ -8,7 +8,7 @@ use Rattle.model.proofs.TaskLists.Masks.{bit_le, without_is}
 use Rattle.model.proofs.Theory.FirstTask.{first_bit, allow_without}
 use Rattle.model.proofs.Tools.Folds.{length_map_below}
 use Rattle.model.proofs.Tools.Arrays.{front_at}
-use native.Mathlib.Nat.{mul_comm, add-mul, one-mul, mod-eq_of_lt}
+use native.Mathlib.Nat.{mul_comm, add-mul, one-mul, mul-one, mod-eq_of_lt}
 use lib.Arith.{digits_lt}
 use Rattle.std.proofs.Math.Seq.{drop-append-add}
 use Rattle.kernel_gather.specs.Gathering.{rest_at}
@@ -36,13 +36,16 @@ module _ {S : Sheet} {x : Counts} {columns tasks departs works : List ℕ} (W : 
     back = λ d l. rw (e, C.points, C.doors) (front_at S.doors _ (replicate max_doors 0) d l ∙ rw (D.task d l, D.depart d l));
   }
 
--- P points, shifted by a task: 32 bits hold it
+-- P points, shifted by a task: 32 bits hold it, and it is no less than a point
 module _ {P n : ℕ} {tasks departs : List ℕ} (B : Backable P n tasks departs) (d : ℕ) (l : d < n) where
   wide : P * 2 ^ get_or tasks d 0 < 2 ^ 32
   wide = let t : get_or tasks d 0 ≤ max_tasks = omega (arith, B.task d l) in omega (arith, mul-le-mul B.points (pow_mono t))
 
   pub shifted : P * 2 ^ get_or tasks d 0 % 2 ^ 32 ≡ P * 2 ^ get_or tasks d 0
   shifted = mod-eq_of_lt wide
+
+  pub no_less : get_or departs d 0 ≤ P * 2 ^ get_or tasks d 0
+  no_less = omega (arith, B.depart d l, mul-le-mul (le_refl P) (pow_pos (get_or tasks d 0)), mul-one P)
 
 -- so far back from K times P, with v one of the bits of K
 module _ (K v P q : ℕ) (l : v ≤ K) (one : 1 ≤ v) (m : q < P) where

@@ -1,6 +1,7 @@
 -- The bytes that the code gathers, as the number that they stand for. Assumes nothing.
 use Rattle.model.proofs.Basics.{◌≡◌, refl, sym, ap₂, ◌∙◌, List, ℕ, zero, suc, ◌+◌, ◌*◌, ◌^◌, ◌≤◌, min, zero-add, add-zero, add-one, arith, leb, length, get_or}
-use Rattle.model.proofs.Basics.{leb-true, leb-false, le_refl}
+use Rattle.model.proofs.Basics.{◌<◌, leb-true, leb-false, le_refl, take, length-take-le, get_or-take, ext_get_or}
+use Rattle.model.proofs.Tools.Folds.{length_map_below, map_below_at}
 use native.Mathlib.Nat.{suc-add, add-suc, mul_assoc, pow-suc}
 use Rattle.model.specs.{map_below, number_at}
 use Rattle.model.proofs.Bytes.Numbers.{number_sum}
@@ -24,6 +25,15 @@ rest_at b i k m e = rw (between_to_end b m (length b) (le_refl (length b))) (get
 -- the k bytes from byte i on
 abbrev pub bytes_from : ℕ → List ℕ → ℕ → List ℕ
 bytes_from k b i = map_below k (λ j. get_or b (i + j) 0)
+
+-- the first n of the rest
+pub first_of_rest : (b : List ℕ) (i m : ℕ) → m ≡ min i (length b) → (n : ℕ) → n ≤ length (between m (length b) b) → take n (between m (length b) b) ≡ bytes_from n b i
+first_of_rest b i m e n h =
+    let rest = between m (length b) b in
+    let long : length (take n rest) ≡ n = length-take-le n rest h in
+    ext_get_or 0 _ _ (long ∙ sym (length_map_below n _)) (λ k l.
+    let j : k < n = omega (arith, long) in
+    get_or-take n rest k 0 j ∙ rest_at b i k m e ∙ sym (map_below_at n _ k 0 j))
 
 -- std's number of them is that of the definition
 pub le_number_2 : (b : List ℕ) (i : ℕ) {bytes : List ℕ} {r : ℕ} → bytes ≡ bytes_from 2 b i → r ≡ from_le_bytes w16 bytes → r ≡ number_at 2 b i

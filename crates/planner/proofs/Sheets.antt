@@ -3,7 +3,7 @@ use Rattle.model.proofs.Basics.{◌≡◌, refl, sym, ap, ap₂, ◌∙◌, true
 use Rattle.model.proofs.Basics.{pow_pos, lt-ltb, le-ltb}
 use lib.{ListN.length-drop, Seq.take-length, Seq.get_or-drop, Arith.digits_lt}
 use Rattle.model.specs.{full, mask_bits, lists_of, full_of, refused, decode, read_sheet, plan_length, short_room, cells_needed, few_cells, room_tests}
-use Rattle.model.specs.{plan_for, cells_after, Planned, plan, pairs_allow}
+use Rattle.model.specs.{plan_for, cells_after, Planned, plan, pairs_allow, max_starts}
 use Rattle.model.specs.Sheet.{Sheet}
 use Rattle.model.proofs.TaskLists.Masks.{full_lt, lists_of_lem, full_of_lem}
 use Rattle.model.proofs.Theory.OpenAlong.{full_allowed}
@@ -13,7 +13,7 @@ use Rattle.view.specs.declared.View.{View}
 use Rattle.view.specs.Views.{view_of, Viewed}
 use Rattle.view.proofs.Counted.{tasks_are, points_are}
 use Rattle.sheet.proofs.Laid as Laid
-use Rattle.kernel_sheet.specs.{declared.Numbers.Numbers, Prepared.Prepared}
+use Rattle.kernel_sheet.specs.{declared.Numbers.Numbers, Prepared.Prepared, Prepared.StartsOf}
 use Rattle.kernel_table.specs.Cells.{Shown}
 use Rattle.kernel_table.proofs.Filling.{shown_after}
 use Rattle.kernel_start.specs.Choosing.{Startable}
@@ -108,6 +108,15 @@ module _ {S : Sheet} {x : Numbers} {columns cells : List ℕ} {k n : ℕ} {new :
 
   to_end : row_from k n new ≡ drop (k * n) new
   to_end = ap (λ (m : ℕ). take m (drop (k * n) new)) (sym (length-drop (k * n) new)) ∙ take-length (drop (k * n) new)
+
+  -- what the choice of the start asks of the array, however long it is
+  pub start_asked : StartsOf S x.starts × (1 ≤ S.starts) × (S.starts ≤ max_starts) × ((s : ℕ) → s < S.starts → S.start_point s < length (row_from k n new))
+  start_asked = (
+    h.prepared.numbers.starts,
+    h.prepared.workable.counts.one_start,
+    h.prepared.workable.counts.starts,
+    λ s l. rw (to_end, length-drop) (omega (arith, start_in_lem s l)),
+  )
 
   -- the start can be chosen, of the first m of the array
   pub startable : {m : ℕ} → m ≡ S.starts → S.starts ≤ length x.starts → Startable S (take m x.starts) (row_from k n new)

@@ -26,6 +26,7 @@ pub struct Quote {
 }
 
 // Tests whether the sheet s can be priced in two layers of so many cells: the sheet that reads, or its own refusal, or 22.
+#[tactic(auto, using(crate::proofs::Fits::sheet_refused), unfolding(crate::specs::Pricing::row_place))]
 pub fn fit<'a>(s: &'a [u8], even: usize, odd: usize) -> Result<ReadSheet<'a>, Refusal>
     ensures place { answer_by (λ (x : _). place_in x.sheet.view) result ≡ row_place s.now even odd }
     ensures bytes { IfOk result (λ x. x.sheet.bytes.now ≡ s.now) }

@@ -180,7 +180,11 @@ module _ (w K : ℕ) where
   bottom = 1 * 2 ^ (high - low - 1) % 2 ^ w
 
 pub record NextFound (w K : ℕ) : Type 0 where
+  pub low_within : low w K < w
+  pub carried_fits : carried_to w K < 2 ^ w
   pub high_above : low w K < high w K
+  pub run_within : high w K - low w K - 1 < w
+  pub next_fits : carried_to w K + bottom w K < 2 ^ w
   pub next : NextOfSize w K (carried_to w K + bottom w K - 1)
 
 pub next_found : (w K : ℕ) → 0 < K → 4 * K < 2 ^ w → NextFound w K
@@ -189,9 +193,18 @@ next_found w K p h =
     let once : 1 * 2 ^ low w K % 2 ^ w ≡ 2 ^ low w K = one_bit w (low w K) c.low_within in
     let s : Carrying w K (low w K) (high w K) = rw once c in
     let run = high w K - low w K - 1 in
-    let then : bottom w K ≡ 2 ^ run = one_bit w run (omega (arith, s.high_above, s.high_within)) in
+    let within : run < w = omega (arith, s.high_above, s.high_within) in
+    let then : bottom w K ≡ 2 ^ run = one_bit w run within in
+    let fits : carried_to w K + bottom w K < 2 ^ w = omega (arith, s.least, s.most) in
     let sum : carried_to w K + bottom w K - 1 ≡ K + 2 ^ low w K + (2 ^ run - 1) = omega (arith, pow_pos run) in
-    record { high_above = s.high_above; next = rw sum (s.next (omega arith)) }
+    record {
+      low_within = c.low_within;
+      carried_fits = omega arith;
+      high_above = s.high_above;
+      run_within = within;
+      next_fits = fits;
+      next = rw sum (s.next (omega arith));
+    }
 
 -- among the lists of n tasks none of K's size lies between
 pub none_among : (n w K L : ℕ) → n ≤ w → NextOfSize w K L → K < 2 ^ n → (M : ℕ) → K < M → M < L → M < 2 ^ n → size n M ≡ size n K → ⊥

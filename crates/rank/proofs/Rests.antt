@@ -1,6 +1,6 @@
 -- The ranks of K without each of its tasks, from the highest down: without t, the tasks above t stand one place lower and those below it where they are in K.
 -- The sum has the tasks that are done at their lower place, and those that are left where they are. Assumes nothing.
-use Rattle.model.proofs.Basics.{◌≡◌, refl, sym, ap, ◌∙◌, ◌≢◌, cond, List, [], ◌∷◌, ℕ, suc, ◌+◌, ◌-◌, ◌*◌, ◌%◌, ◌^◌, ◌≤◌, ◌<◌, arith}
+use Rattle.model.proofs.Basics.{◌≡◌, refl, sym, ap, ◌∙◌, ◌≢◌, cond, List, [], ◌∷◌, ℕ, suc, ◌+◌, ◌-◌, ◌*◌, ◌%◌, ◌^◌, ◌≤◌, ◌<◌, mul-le-mul_right, arith}
 use Rattle.model.proofs.Basics.{set, lt_of_le_of_lt, mod-lt, pow_pos, eqb, eqb-true, eqb-false, ltb, ltb-true, ltb-false}
 use Rattle.model.specs.{sum_below, map_below, bit, member, without, size}
 use Rattle.model.proofs.Tools.Tests.{by_test}
@@ -114,6 +114,13 @@ module _ {n K left sum i : ℕ} (s : Lowering n K left sum i) {t : ℕ} (l : Hig
   lower_fits = (below, omega (arith, s.counted, size_le n left), omega (arith, place))
 
 -- ---- the rows
+
+pub rank_small : (K : ℕ) → rank_of K < 2 ^ max_ranked
+unfolding rank_of
+rank_small K = let l : K % 2 ^ max_ranked < 2 ^ max_ranked = mod-lt K (pow_pos max_ranked) in lt_of_le_of_lt (rank_le max_ranked _ l) l
+
+pub row_fits : {r P : ℕ} → r < 2 ^ 16 → P < 2 ^ 16 → r * P + P < 2 ^ 33
+row_fits {r} {P} h l = omega (arith, mul-le-mul_right P h)
 
 -- the first n tasks of K without t
 first_without : (n K t : ℕ) → t < n → without K t % 2 ^ n ≡ without (K % 2 ^ n) t

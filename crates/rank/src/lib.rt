@@ -64,15 +64,17 @@ pub struct ListRows {
 }
 
 // The table of binomials: n over k in row n at place k. What looks into it is lent it, since a constant array is made anew wherever the code names it.
-#[derive(Drop)]
+#[derive(Clone, Copy)]
 pub struct Pascal {
-    entries: [[u32; WIDTH]; WIDTH],
-    ghost tabled: { Tabled entries },
+    pub entries: [[u32; WIDTH]; WIDTH],
+    pub ghost tabled: { Tabled entries },
 }
 
 impl Pascal {
     // The table, from the constant.
-    pub fn new() -> Self {
+    pub fn new() -> Self
+        ensures { Tabled result.entries }
+    {
         Pascal { entries: BINOMIALS }
     }
 

@@ -7,6 +7,9 @@ use Rattle.model.specs.Sheet.{Sheet}
 use Rattle.model.proofs.Tools.Tests.{eq_or_lt}
 use Rattle.model.proofs.Tools.SignedSums.{back, widened_fits}
 use Rattle.model.proofs.TaskLists.Masks.{bit_none, with_same, with_other}
+use Rattle.model.proofs.Theory.Loads.{load_magnitude}
+use Rattle.model.proofs.Theory.Bounds.{max_change}
+use Rattle.model.proofs.Bytes.Widths.{Widths}
 use lib.IntN.{+ℤ_idr, +ℤ_assoc, +ℤ_comm}
 use lib.Signed.{mag, nat_abs-le}
 use Rattle.std.proofs.lemmas.Int.{ints}
@@ -57,6 +60,15 @@ module _ (S : Sheet) (K t : ℕ) (new : bit K t ≡ 0) where
 mag_le : (z : ℤ) → mag z ≤ nat_abs z
 mag_le (pos n) = omega arith
 mag_le (negsuc n) = omega arith
+
+-- the load of any list that a mask holds
+pub load_fits : (S : Sheet) → Widths S → S.tasks ≤ mask_bits → (K : ℕ) → mag (load S K) < 2 ^ 63
+load_fits S W n K = omega (
+  arith,
+  mag_le (load S K),
+  load_magnitude S K max_change (2 ^ 15) (2 ^ 32) (λ j l. omega (arith, W.change_up j))
+      (λ j l. W.change_down j) (omega (arith, W.end_load)) (omega arith),
+)
 
 abs_sum : (y z : ℤ) → nat_abs (y +ℤ z) ≤ nat_abs y + nat_abs z
 abs_sum y z = omega (arith, ints)

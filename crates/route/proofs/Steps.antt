@@ -20,6 +20,12 @@ use mir.ValLaws.{to_z_pos}
 use Rattle.route.specs.Routes.{point_before, open_at, Costable}
 use Rattle.route.proofs.Joining.{load_none, HoldsLoad, grown, join_fits, join_load}
 
+-- ---- the points of a route
+
+pub point_behind : (S : Sheet) (p : ℕ) (ds : List ℕ) (i : ℕ) → 0 < i → S.depart (get_or ds (i - 1) 0) ≡ point_before S p ds i
+point_behind S p ds zero h = absurd (omega arith)
+point_behind S p ds (suc i) h = ap (λ (j : ℕ). S.depart (get_or ds j 0)) (omega arith)
+
 -- ---- the tasks of a route
 
 count_drop : (t i : ℕ) (xs : List ℕ) → count_of t (drop i xs) ≤ count_of t xs
@@ -121,7 +127,7 @@ module _ {S : Sheet} {p : ℕ} {ds ts : List ℕ} {j sum : ℕ} {held : ℤ} (t 
   inside : j < length ds
   inside = omega (arith, t.behind.within)
 
-  there : j < length ts
+  pub there : j < length ts
   there = rw (t.asked.tasks_are, length-map) inside
 
   pub its_door : get_or ds j 0 < S.doors

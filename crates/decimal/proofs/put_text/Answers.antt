@@ -1,5 +1,7 @@
 -- A text that does not fit is not begun; one that fits becomes the part of the buffer from byte `at` on. Assumes nothing.
-use Rattle.model.proofs.Basics.{◌+◌, ◌<◌, arith, length}
+use Rattle.model.proofs.Basics.{◌≡◌, List, ℕ, ◌+◌, ◌-◌, ◌≤◌, ◌<◌, arith, length}
+use Rattle.model.specs.{overwrite_at}
+use borrow.Rule.Slice.PartMut.{put_mid}
 use Rattle.decimal.proofs.Placing.{unwritten, as_many, written}
 use Rattle.decimal.proofs.put_text.Goals.{Joined-then-room-at, then-room-at-via-then-room-at, then-room-at-via-else-room-at+then-room-at-2}
 use Rattle.decimal.proofs.put_text.Goals as goal
@@ -15,6 +17,12 @@ pub returns-then-room-at : goal.returns-then-room-at
 returns-then-room-at c =
     let both = unwritten _ _ _ (short (goal.at.returns-then-room-at c).Joined-then-room-at) in record { written = both.0; bytes = both.1 }
 
+-- so many bytes from a place on that is i
+placed : (i : ℕ) (xs b ys : List ℕ) {m k : ℕ} → m ≡ i → k ≡ length xs → i + length xs ≤ length b → ys ≡ xs → put_mid m k b ys ≡ overwrite_at i xs b
+placed i xs b ys {k = k} e s h q =
+    let t : k ≡ i + length xs - i = omega (arith, s) in
+    rw (e, t) (written i xs b ys h q)
+
 pub returns : goal.returns
 returns c =
-    record { written = as_many _ _ _ (omega arith); bytes = written _ _ _ _ (omega arith) c.copy_from_slice.ensures.after }
+    record { written = as_many _ _ _ (omega arith); bytes = placed _ _ _ _ (omega arith) (omega arith) (omega arith) c.copy_from_slice.ensures.after }

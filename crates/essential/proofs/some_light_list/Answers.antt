@@ -1,6 +1,7 @@
 -- The lists one by one: the sum is the load of the list before, and none so far is essential with a load below zero. Assumes nothing.
-use Rattle.model.proofs.Basics.{◌≡◌, ap, ◌∙◌, ◌^◌, ◌<◌, arith, pow_pos, take}
+use Rattle.model.proofs.Basics.{◌≡◌, ap, ◌∙◌, ◌^◌, ◌<◌, arith, pow_pos, length, take}
 use Rattle.model.specs.{map_below, senders_of, lists_of}
+use Rattle.model.proofs.Tools.Folds.{length_map_below}
 use Rattle.model.proofs.TaskLists.Masks.{lists_of_lem}
 use Rattle.view.specs.Sheets.{sheet_of}
 use Rattle.view.proofs.Counted.{tasks_are}
@@ -24,6 +25,10 @@ slice : (c : After-senders-senders) →
     take c.args.sheet.now.view.tasks c.senders-senders.result ≡ map_below S.tasks (senders_of S)
 slice c = slice_is _ c.senders-senders.ensures (tasks_are c.args.sheet.now.viewed) c.requires.0
 
+-- as many as the sheet has tasks
+size : (c : After-senders-senders) → length (take c.args.sheet.now.view.tasks c.senders-senders.result) ≡ (sheet_of c.args.sheet.now).tasks
+size c = ap length (slice c) ∙ length_map_below _ _
+
 pub slice_bounds-senders-end-2 : goal.slice_bounds-senders-end-2
 slice_bounds-senders-end-2 c = slice_size _ c.senders-senders.ensures (tasks_are c.args.sheet.now.viewed) c.requires.0
 
@@ -45,7 +50,8 @@ pub returns-then-closed : goal.returns-then-closed
 returns-then-closed c =
     let p = c.requires in
     light c.loop-k.invariant c.steps-steps.ensures p.0 (end_small (goal.at.returns-then-closed c).After-end_load-load) (lists_are (goal.at.returns-then-closed c).After-end_load-load) c.loop-k-test.true (omega arith)
-    p.1 c.if-load-lt0.true c.closed.ensures (slice (goal.at.returns-then-closed c).After-senders-senders) c.if-closed.true
+    p.1 c.if-load-lt0.true c.closed.ensures (slice (goal.at.returns-then-closed c).After-senders-senders)
+    (size (goal.at.returns-then-closed c).After-senders-senders) (omega arith) c.if-closed.true
 
 -- one list more is not essential, or its load is not below zero
 pub loop-k-preserved : goal.loop-k-preserved
@@ -58,7 +64,8 @@ loop-k-preserved c =
     elim c.else-load-lt0.branch [
       | else-load-lt0-via-then-load-lt0+else-closed w ↦
           not_essential h st few (end_small (goal.at.loop-k-preserved c).After-end_load-load) n c.loop-k-test.true (omega arith) p.1
-          w.if-load-lt0.true w.closed.ensures (slice (goal.at.loop-k-preserved c).After-senders-senders) w.if-closed.false
+          w.if-load-lt0.true w.closed.ensures (slice (goal.at.loop-k-preserved c).After-senders-senders)
+          (size (goal.at.loop-k-preserved c).After-senders-senders) (omega arith) w.if-closed.false
       | else-load-lt0-via-else-load-lt0 w ↦
           heavy h st few (end_small (goal.at.loop-k-preserved c).After-end_load-load) n c.loop-k-test.true (omega arith) w.if-load-lt0.false
     ]

@@ -1,5 +1,5 @@
 -- The head is a row of numbers that fit their bytes, so it stands in the bytes exactly where each number is read there. Assumes nothing.
-use Rattle.model.proofs.Basics.{sym, ◌∙◌, arith, eq-eqb}
+use Rattle.model.proofs.Basics.{sym, ◌∙◌, arith, rules, lt-ltb, eq-eqb}
 use Rattle.model.specs.{wrong_head}
 use Rattle.model.proofs.Tools.Elements.{are_bytes_lem}
 use Rattle.model.proofs.Tools.Searches.{none_tried, passed_on}
@@ -25,7 +25,7 @@ loop-k-init c =
 pub returns-then-read_u16-number : goal.returns-then-read_u16-number
 unfolding wrong_head
 returns-then-read_u16-number c =
-    one_differs (comparable (goal.at.returns-then-read_u16-number c).After-head) (omega arith) c.read_u16.ensures c.if-read_u16-number.true
+    search (rules, lt-ltb) ∙ one_differs (comparable (goal.at.returns-then-read_u16-number c).After-head) (omega arith) c.read_u16.ensures c.if-read_u16-number.true
 
 -- one number more is the head's
 pub loop-k-preserved : goal.loop-k-preserved

@@ -33,4 +33,4 @@ bytes_at-requires c =
 
 pub returns : goal.returns
 returns c =
-    distance_is c.args.self.now.viewed _ _ c.requires.0 c.requires.1 _ (le_number_2 _ _ c.bytes_at.ensures c.from_le_bytes.ensures)
+    distance_is c.args.self.now.viewed _ _ c.requires.0 c.requires.1 _ (omega (arith, le_number_2 _ _ c.bytes_at.ensures c.from_le_bytes.ensures))

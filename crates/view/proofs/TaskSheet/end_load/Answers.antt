@@ -12,4 +12,4 @@ bytes_at-requires c =
 pub returns : goal.returns
 unfolding decode_by decode
 returns c =
-    le_number_2 _ _ c.bytes_at.ensures c.from_le_bytes.ensures
+    omega (arith, le_number_2 _ _ c.bytes_at.ensures c.from_le_bytes.ensures)

@@ -1,5 +1,5 @@
 -- Field 1 of the pairs, counted from 0. Assumes nothing.
-use Rattle.model.proofs.Basics.{lit<}
+use Rattle.model.proofs.Basics.{arith, lit<}
 use Rattle.model.specs.{pairs_body, decode_by, decode}
 use Rattle.number.proofs.Bytes.{le_number_2}
 use Rattle.view.proofs.Fields.{within, field_is}
@@ -13,4 +13,4 @@ field-requires c =
 pub returns : goal.returns
 unfolding decode_by decode
 returns c =
-    field_is c.args.self.now.viewed pairs_body 1 _ (lit< tt) (le_number_2 _ _ c.field.ensures c.from_le_bytes.ensures)
+    field_is c.args.self.now.viewed pairs_body 1 _ (lit< tt) (omega (arith, le_number_2 _ _ c.field.ensures c.from_le_bytes.ensures))
